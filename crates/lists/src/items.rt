@@ -1,0 +1,120 @@
+ghost use Rattle.std.specs.Prelude.{◌≡◌, ◌<◌, ◌++◌, ◌∷◌, [], length, slice_get, slice_set, ◌↔◌, IsTrue, IfOk, MatchOption, OnOk, OnErr, OnSome};
+ghost use Rattle.std.specs.Option.{option_copied};
+ghost use Rattle.std.specs.Cmp.Lexicographic.{pointwise, lists_per};
+ghost use Rattle.std.specs.List.{AllZip};
+
+use std::alloc::{AllocError, AllocFailed, Global};
+use std::marker::Model;
+
+/// A growing list. Contracts see it as the list of its elements, so capacity and place stay out of
+/// every theorem.
+#[derive(Debug, Drop)]
+pub struct Items<T> {
+    elements: Vec<T>,
+}
+
+impl<T> Model for Items<T> {
+    ghost use Rattle.std.specs.Prelude.{List};
+    ghost use Rattle.std.specs.Coded.{coded_list};
+
+    ghost Value = { List T };
+
+    ghost coded = { coded_list T.code };
+
+    ghost view = { λ list. list.elements.items };
+}
+
+impl<T> Items<T> {
+    /// The empty list, which takes no memory.
+    pub fn new(alloc: Global) -> Items<T>
+        ensures { result ≡ [] }
+    {
+        Items {
+            elements: Vec::new(alloc),
+        }
+    }
+
+    pub fn from_vec(elements: Vec<T>) -> Items<T>
+        ensures { result ≡ elements.items }
+    {
+        Items { elements }
+    }
+
+    pub fn as_slice(&self) -> &[T]
+        ensures { result.now ≡ self.now }
+    {
+        self.elements.as_slice()
+    }
+
+    pub fn len(&self) -> usize
+        ensures { result ≡ length self.now }
+    {
+        self.elements.len()
+    }
+
+    pub fn is_empty(&self) -> bool
+        ensures { IsTrue result ↔ (self.now ≡ []) }
+    {
+        self.elements.is_empty()
+    }
+
+    pub fn get(&self, at: usize) -> Option<&T>
+        ensures value { option_copied result ≡ slice_get self.now at }
+        ensures within { OnSome result (at < length self.now) }
+    {
+        self.elements.get(at)
+    }
+
+    /// Takes the last element off.
+    pub fn pop(&mut self) -> Option<T>
+        ensures { MatchOption result ((self.old ≡ []) × (self.new ≡ [])) (λ last. self.old ≡ self.new ++ last ∷ []) }
+    {
+        self.elements.pop()
+    }
+}
+
+impl<T: Drop> Items<T> {
+    /// Adds an element at the end. Without memory the list stays as it was, and the element is dropped.
+    pub fn push(&mut self, element: T) -> Result<(), AllocError>
+        ensures ok { OnOk result (self.new ≡ self.old ++ element ∷ []) }
+        ensures err { OnErr result (self.new ≡ self.old) }
+    {
+        self.elements.push(element)?;
+        Ok(())
+    }
+
+    pub fn set(&mut self, at: usize, element: T)
+        requires { at < length self.old }
+        ensures { self.new ≡ slice_set self.old at element }
+    {
+        self.elements[at] = element;
+    }
+}
+
+impl<T: Copy> Items<T> {
+    pub fn from_slice(alloc: Global, elements: &[T]) -> Result<Items<T>, AllocError>
+        ensures { IfOk result (λ list. list ≡ elements.now) }
+    {
+        let elements = Vec::from_slice(alloc, elements)?;
+        Ok(Items { elements })
+    }
+}
+
+impl<T: PartialEq> PartialEq for Items<T> {
+    ghost eq = { λ x y. pointwise T.eq x y };
+
+    ghost laws = { lists_per T.laws };
+
+    fn eq(&self, other: &Self) -> bool {
+        self.elements == other.elements
+    }
+}
+
+impl<T: Clone> Clone for Items<T> {
+    ghost is_clone = { λ x y. AllZip T.is_clone x y };
+
+    fn clone(&self) -> Result<Items<T>, AllocError> {
+        let elements = self.elements.clone()?;
+        Ok(Items { elements })
+    }
+}

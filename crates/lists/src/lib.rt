@@ -1,0 +1,9 @@
+//! Lists and boxes that contracts see as plain values, so that a tree of them is plain data, and
+//! the lemmas on lists that every layer cites.
+#![tactic(auto)]
+
+mod boxed;
+mod items;
+
+pub use boxed::Boxed;
+pub use items::Items;
