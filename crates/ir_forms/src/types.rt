@@ -1,0 +1,73 @@
+use lists::Items;
+
+/// The bits of an integer type.
+#[derive(Clone, Copy, PartialEq, Eq, Debug)]
+pub enum Width {
+    W1,
+    W8,
+    W16,
+    W32,
+    W64,
+}
+
+/// A type of the grammar, and `Untyped` for a region's parameter whose form gives it none.
+#[derive(PartialEq, Debug, Drop)]
+pub enum Ty {
+    Int(Width),
+    Index,
+    Memref(MemTy),
+    Token,
+    Value(ValTy),
+    Group,
+    /// A coroutine's identity, handle and saved state stand in lowered code alone.
+    CoroId,
+    CoroHandle,
+    CoroState,
+    Untyped,
+}
+
+/// A type of whole numbers.
+#[derive(Clone, Copy, PartialEq, Eq, Debug)]
+pub enum NumTy {
+    Int(Width),
+    Index,
+}
+
+/// The type of one cell of a buffer. After verification it is a type of numbers.
+#[derive(Clone, Copy, PartialEq, Eq, Debug)]
+pub enum CellTy {
+    Int(Width),
+    Index,
+    Token,
+    Group,
+    Value(NumTy),
+}
+
+/// One dimension of a buffer: its size, or `?`.
+#[derive(Clone, Copy, PartialEq, Eq, Debug)]
+pub enum Dim {
+    Fixed(u32),
+    Dynamic,
+}
+
+/// `memref<..>`: the sizes from the outermost dimension on, and the type of a cell.
+#[derive(PartialEq, Debug, Drop)]
+pub struct MemTy {
+    pub elem: CellTy,
+    pub dims: Items<Dim>,
+}
+
+/// What an `!async.value<..>` holds.
+#[derive(PartialEq, Debug, Drop)]
+pub enum ValTy {
+    Int(Width),
+    Index,
+    Memref(MemTy),
+}
+
+/// The type of a number that a run gives back.
+#[derive(Clone, Copy, PartialEq, Eq, Debug)]
+pub enum OutTy {
+    Int(Width),
+    Index,
+}
