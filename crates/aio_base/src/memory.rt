@@ -80,9 +80,9 @@ impl Source for MemSource {
         ensures after { IfOk result (λ n. self.new ≡ after_read self.old n) }
         ensures front { IfOk result (λ n. piece.new ≡ take n self.old.left ++ drop n piece.old) }
     {
-        let failing = is_among(&self.fails, self.calls);
+        let is_failing = is_among(&self.fails, self.calls);
         self.calls = self.calls.saturating_add(1);
-        if failing {
+        if is_failing {
             self.faults = self.faults.saturating_add(1);
             return Err(ReadFailed);
         }
@@ -144,6 +144,13 @@ impl MemSink {
     {
         self.faults
     }
+
+    // Whether the next write, of this piece, is to fail.
+    fn is_failing(&self, piece: &[u8]) -> bool
+        ensures { IsTrue result ↔ WriteFails self.now piece.now }
+    {
+        is_among(&self.fails, self.calls) || (self.bytes.len() >= self.room && !piece.is_empty())
+    }
 }
 
 impl Sink for MemSink {
@@ -166,13 +173,13 @@ impl Sink for MemSink {
         ensures after { IfOk result (λ n. self.new ≡ after_write self.old (take n piece.now)) }
         ensures room { length self.new.taken ≤ self.new.room }
     {
-        let failing = is_among(&self.fails, self.calls);
+        let is_failing = self.is_failing(piece);
         self.calls = self.calls.saturating_add(1);
-        let count = piece.len().min(self.step).min(self.room - self.bytes.len());
-        if failing || (count == 0 && !piece.is_empty()) {
+        if is_failing {
             self.faults = self.faults.saturating_add(1);
             return Err(WriteFailed);
         }
+        let count = piece.len().min(self.step).min(self.room - self.bytes.len());
         match self.bytes.extend_from_slice(&piece[..count]) {
             Ok(()) => Ok(count),
             Err(AllocError) => unreachable!(), // the room was reserved
@@ -194,6 +201,8 @@ fn is_among(fails: &[u64], calls: u64) -> bool
 pub(crate) fn copy_front(from: &[u8], to: &mut [u8]) -> usize
     ensures count { result ≡ min (length to.old) (length from.now) }
     ensures copied { to.new ≡ take result from.now ++ drop result to.old }
+    ensures bound { result ≤ length to.new }
+    ensures consumed { from.now ≡ take result to.new ++ drop result from.now }
 {
     let count = to.len().min(from.len());
     to[..count].copy_from_slice(&from[..count]);
