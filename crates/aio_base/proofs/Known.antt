@@ -6,8 +6,8 @@ use Rattle.std.proofs.KnownBytes.{Appends-trans}
 use Rattle.std.specs.Io.KnownBytes.{Appends}
 
 -- the first k bytes were taken, and then n of the bytes after them
-pub Appends-more : (a b c : Option (List ℕ)) (bytes : List ℕ) (k n : ℕ) → Appends a b (take k bytes)
+pub taken_more : (a b c : Option (List ℕ)) (bytes : List ℕ) (k n : ℕ) → Appends a b (take k bytes)
     → Appends b c (take n (take (length bytes - k) (drop k bytes))) → Appends a c (take (k + n) bytes)
-Appends-more a b c bytes k n first more =
+taken_more a b c bytes k n first more =
     subst (Appends a c) (ap (λ rest. take k bytes ++ take n rest) (take_rest bytes k) ∙ sym (take-add k n bytes))
     (Appends-trans a b c _ _ first more)

@@ -63,6 +63,7 @@ pub fn read_all<S: Source>(
 /// # Errors
 ///
 /// `WriteFault` where a write failed, with how many first bytes were taken before.
+#[tactic(auto, using(crate::proofs::Known::taken_more))]
 pub fn write_all<K: Sink>(sink: &mut K, bytes: &[u8]) -> Result<(), WriteFault>
     ensures whole { OnOk result (Appends (K.taken sink.old) (K.taken sink.new) bytes.now) }
     ensures front { IfErr result (λ fault. WritesFront (K.taken sink.old) (K.taken sink.new) bytes.now fault.written) }
