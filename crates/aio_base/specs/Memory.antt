@@ -1,5 +1,5 @@
 -- Sources and sinks in memory, and what one call does to them.
-use Rattle.std.specs.Prelude.{ℕ, ◌≡◌, ◌+◌, ◌-◌, ◌<◌, ◌≤◌, ◌⊎◌, min, List, [], ◌++◌, length, take, drop, Contains}
+use Rattle.std.specs.Prelude.{ℕ, ◌+◌, ◌-◌, ◌<◌, ◌≤◌, ◌⊎◌, min, List, [], ◌++◌, length, drop, Contains}
 use Rattle.aio_base.specs.Faults.{next_count}
 
 -- an input in memory: the bytes left, the numbers of the calls that fail, and the counts of calls and of faults so far
@@ -56,7 +56,7 @@ fresh_output step room fails = record { taken = []; step = step; room = room; fa
 -- the next write of this piece fails: by its number, from 1, or because the room is used up
 abbrev pub WriteFails : Output → List ℕ → Type 0
 WriteFails output piece =
-  Contains output.fails (output.calls + 1) ⊎ ((output.room ≤ length output.taken) × (0 < length piece))
+    Contains output.fails (output.calls + 1) ⊎ ((output.room ≤ length output.taken) × (0 < length piece))
 
 -- how many bytes of a piece of this length the next write takes
 abbrev pub write_count : Output → ℕ → ℕ

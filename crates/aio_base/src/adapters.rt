@@ -5,10 +5,9 @@ ghost use Rattle.std.specs.Io.{ReadsAtMost, WritesAtMost};
 ghost use Rattle.std.specs.Io.KnownBytes.{ReadConsumes, WriteAppends};
 ghost use Rattle.aio_base.specs.Faults.{HasCause, next_count};
 
-use std::io::{Read, Write};
-
 use crate::errors::{ReadFailed, WriteFailed};
 use crate::traits::{Sink, Source};
+use std::io::{Read, Write};
 
 /// A std reader as a source. It tells what the reader tells: nothing, over a file, a pipe or a terminal.
 #[derive(Debug, Drop)]

@@ -6,6 +6,8 @@ mod errors;
 mod gates;
 mod memory;
 mod sure;
+#[cfg(test)]
+mod tests;
 mod traits;
 mod whole;
 

@@ -6,11 +6,10 @@ ghost use Rattle.std.specs.Io.KnownBytes.{ReadConsumes, WriteAppends};
 ghost use Rattle.aio_base.specs.Faults.{HasCause};
 ghost use Rattle.aio_base.specs.Memory.{ReadFails, WriteFails, fresh_input, fresh_output, read_count, write_count, after_read, after_failed_read, after_write, after_failed_write};
 
-use std::alloc::{AllocError, Global};
-use std::marker::Model;
-
 use crate::errors::{ReadFailed, WriteFailed};
 use crate::traits::{Sink, Source};
+use std::alloc::{AllocError, Global};
+use std::marker::Model;
 
 /// A source over bytes in memory, some of whose calls fail.
 #[derive(Debug, Drop)]

@@ -5,11 +5,10 @@ ghost use Rattle.std.specs.Io.{ReadsAtMost, WritesAtMost};
 ghost use Rattle.std.specs.Io.KnownBytes.{ReadConsumes, WriteAppends};
 ghost use Rattle.aio_base.specs.Faults.{HasCause};
 
-use std::marker::Model;
-
 use crate::errors::{ReadFailed, WriteFailed};
 use crate::memory::copy_front;
 use crate::traits::{Sink, Source};
+use std::marker::Model;
 
 /// A source over bytes in memory that never fails. Contracts see it as the bytes that are left.
 #[derive(Debug, Drop)]

@@ -5,10 +5,9 @@ ghost use Rattle.std.specs.Io.KnownBytes.{Appends};
 ghost use Rattle.aio_base.specs.Faults.{HasCause};
 ghost use Rattle.aio_base.specs.Whole.{ReadsWhole, ReadsFront, ReadAllStops, Told, WritesFront};
 
-use std::alloc::Global;
-
 use crate::errors::{ReadAllError, ReadFailed, WriteFailed, WriteFault};
 use crate::traits::{Sink, Source};
+use std::alloc::Global;
 
 // How many bytes are asked for at a time.
 const PIECE: usize = 8192;
@@ -28,10 +27,10 @@ pub fn read_all<S: Source>(
     ensures within { IfOk result (λ all. vec_len all ≤ limit) }
     ensures stops { IfErr result (λ error.
         let told : Told = record {
-            left = S.left source.old;
-            left_after = S.left source.new;
-            faults = S.faults source.old;
-            faults_after = S.faults source.new;
+          left = S.left source.old;
+          left_after = S.left source.new;
+          faults = S.faults source.old;
+          faults_after = S.faults source.new;
         } in ReadAllStops error limit told) }
 
     // On every answer.
@@ -64,6 +63,7 @@ pub fn read_all<S: Source>(
 /// # Errors
 ///
 /// `WriteFault` where a write failed, with how many first bytes were taken before.
+#[tactic(auto, using(crate::proofs::Known::taken_more))]
 pub fn write_all<K: Sink>(sink: &mut K, bytes: &[u8]) -> Result<(), WriteFault>
     ensures whole { OnOk result (Appends (K.taken sink.old) (K.taken sink.new) bytes.now) }
     ensures front { IfErr result (λ fault. WritesFront (K.taken sink.old) (K.taken sink.new) bytes.now fault.written) }
