@@ -12,7 +12,7 @@ mod fixed;
 pub use fixed::Int;
 
 /// How many bits a number has; an `index` has 64.
-#[derive(Clone, Copy, PartialEq, Debug)]
+#[derive(Clone, Copy, PartialEq, Eq, Debug)]
 pub enum Width {
     W1,
     W8,
@@ -37,7 +37,7 @@ impl Width {
 }
 
 /// The operations on two numbers of one width. `S` reads both as signed numbers, `U` as they stand.
-#[derive(Clone, Copy, PartialEq, Debug)]
+#[derive(Clone, Copy, PartialEq, Eq, Debug)]
 pub enum BinOp {
     Add,
     Sub,
@@ -62,7 +62,7 @@ pub enum BinOp {
 }
 
 /// The comparisons of two numbers of one width. `S` reads both as signed numbers, `U` as they stand.
-#[derive(Clone, Copy, PartialEq, Debug)]
+#[derive(Clone, Copy, PartialEq, Eq, Debug)]
 pub enum Pred {
     Eq,
     Ne,
