@@ -1,4 +1,4 @@
-ghost use Rattle.std.specs.Prelude.{◌≡◌, IsTrue, IfOk, Some};
+ghost use Rattle.std.specs.Prelude.{Some};
 
 use crate::{
     Gate, MemSink, MemSource, OpenGate, ReadAllError, ReadFailed, Sink, Source, StdSink, StdSource,
@@ -94,10 +94,8 @@ fn reads_up_to_the_limit(rt: HostRuntime) -> Result<(), Fail> {
     let text = long_text(alloc)?;
     for limit in [20_000, 20_001, usize::MAX] {
         let mut source = source_of(alloc, &text, &[])?;
-        match read_all(alloc, &mut source, limit) {
-            Ok(all) => assert_eq!(rt; all.as_slice(), text.as_slice()),
-            Err(error) => assert!(rt; false, "{error}"),
-        }
+        let all = read_all(alloc, &mut source, limit)?;
+        assert_eq!(rt; all.as_slice(), text.as_slice());
     }
     for (limit, left) in [(19_999, 0), (8_192, 11_807), (0, 19_999)] {
         let mut source = source_of(alloc, &text, &[])?;
@@ -117,10 +115,8 @@ fn moves_one_byte_at_a_call(rt: HostRuntime) -> Result<(), Fail> {
     let mut sip = Sip {
         inner: MemSink::new(alloc, 64, 64, Vec::new(alloc))?,
     };
-    match read_all(alloc, &mut drip, 10) {
-        Ok(all) => assert_eq!(rt; write_all(&mut sip, &all), Ok(())),
-        Err(error) => assert!(rt; false, "{error}"),
-    }
+    let all = read_all(alloc, &mut drip, 10)?;
+    write_all(&mut sip, &all)?;
     assert_eq!(rt; sip.inner.taken(), TEXT);
     Ok(())
 }
@@ -130,10 +126,8 @@ fn adapts_std_readers_and_writers(rt: HostRuntime) -> Result<(), Fail> {
     let alloc = rt.alloc();
     let mut source = StdSource::new(Cursor::new(TEXT));
     let mut sink = StdSink::new(Vec::new(alloc));
-    match read_all(alloc, &mut source, 10) {
-        Ok(all) => assert_eq!(rt; write_all(&mut sink, &all), Ok(())),
-        Err(error) => assert!(rt; false, "{error}"),
-    }
+    let all = read_all(alloc, &mut source, 10)?;
+    write_all(&mut sink, &all)?;
     assert_eq!(rt; sink.writer.as_slice(), TEXT);
     assert_eq!(rt; (source.faults, sink.faults), (0, 0));
 
