@@ -1,6 +1,7 @@
 -- Signed readings, residues and what the code's words of 64 bits make of them.
 use Rattle.std.proofs.Common.{◌≡◌, ℕ, suc, ◌+◌, ◌-◌, ◌*◌, ◌/◌, ◌%◌, ◌^◌, ◌<◌, ◌≤◌, Bool, true, false, ℤ, pos, negsuc, ◌-ℤ◌, refl, sym, ◌∙◌, ap, subst, arith, bit_or}
 use Rattle.std.specs.Prelude.{nat_lt, FitsSigned}
+use Rattle.std.specs.Int.Signed.{mag}
 use Rattle.std.specs.Int.{w64, cast_signed, cast_unsigned}
 use Rattle.std.proofs.Math.Nat.{two-pow-succ, mod-eq_of_lt, div-eq_of_lt, div-mul-le_self, mod-lt, div-add-mod', mul-le-mul_right}
 use Rattle.std.proofs.Math.Pow.{pow_mono, pow-add, high_ones, mod-mod-pow, low}
@@ -47,6 +48,24 @@ residue-reading w a h = ⊎_elim
     (λ under. ap (residue w) (reading_low w a under) ∙ residue-pos w a h)
     (λ over. ap (residue w) (reading_high w a over h) ∙ residue-negsuc w (2 ^ w - 1 - a) (omega arith) ∙ omega arith)
     (cases_lt a (2 ^ (w - 1)))
+
+-- a reading lies in the lower half or is as far below zero
+pub mag-reading : (w a : ℕ) → 0 < w → a < 2 ^ w → mag (signed_reading w a) < 2 ^ (w - 1)
+mag-reading w a some h =
+    let two = half w some in
+    let p = pow_pos (w - 1) in
+    ⊎_elim
+    (λ under. subst (λ z. mag z < 2 ^ (w - 1)) (sym (reading_low w a under)) under)
+    (λ over. subst (λ z. mag z < 2 ^ (w - 1)) (sym (reading_high w a over h)) (let l : 2 ^ w - 1 - a < 2 ^ (w - 1) = omega arith in l))
+    (cases_lt a (2 ^ (w - 1)))
+
+pub reading-residue : (w : ℕ) (z : ℤ) → 0 < w → mag z < 2 ^ (w - 1) → signed_reading w (residue w z) ≡ z
+reading-residue w (pos n) some h =
+    let two = half w some in
+    ap (signed_reading w) (residue-pos w n (omega arith)) ∙ reading_low w n h
+reading-residue w (negsuc n) some h =
+    let two = half w some in
+    ap (signed_reading w) (residue-negsuc w n (omega arith)) ∙ reading_high w (2 ^ w - 1 - n) (omega arith) (omega arith) ∙ ap negsuc (omega arith)
 
 -- ---- the number of 64 bits with the same signed reading
 

@@ -1,12 +1,13 @@
 -- The results of the operations, in the words of the code.
-use Rattle.std.proofs.Common.{◌≡◌, ℕ, suc, ◌+◌, ◌-◌, ◌*◌, ◌/◌, ◌%◌, ◌^◌, ◌<◌, ◌≤◌, Bool, true, false, ℤ, pos, negsuc, neg_ℤ, ◌-ℤ◌, refl, sym, ◌∙◌, ap, subst, arith, bit_or, bit_and, min, max, Some, None, IfSome}
-use Rattle.std.specs.Prelude.{nat_lt, nat_le, FitsSigned, SomeIff, Option, bit_xor, ◌&&◌, ◌||◌, ◌==◌, cond, int_div, int_rem, unsigned_abs, ◌<ℤ◌, ◌≢◌}
+use Rattle.std.proofs.Common.{◌≡◌, ℕ, zero, suc, zero-le, ◌+◌, ◌-◌, ◌*◌, ◌/◌, ◌%◌, ◌^◌, ◌<◌, ◌≤◌, Bool, true, false, ℤ, pos, negsuc, neg_ℤ, ◌-ℤ◌, refl, sym, ◌∙◌, ap, subst, arith, bit_or, bit_and, min, max, Some, None, IfSome}
+use Rattle.std.specs.Prelude.{nat_lt, nat_le, FitsSigned, SomeIff, Option, bit_xor, ◌&&◌, ◌||◌, ◌==◌, cond, int_div, int_rem}
 use Rattle.std.specs.Int.{w64, cast_signed, cast_unsigned, CanDivide}
 use Rattle.std.specs.Int.Bits.{and_lt}
+use Rattle.std.specs.Int.Signed.{mag}
 use Rattle.std.proofs.Math.Nat.{mod-eq_of_lt, mod-le, div-le_self, min-le_left, mul-add-mod_self_left, div-lt_self}
 use Rattle.std.proofs.Math.Pow.{pow_mono, mod-mod-pow}
 use Rattle.std.proofs.lemmas.Nat.{pow_pos, or_lt, xor_lt, shr_le}
-use Rattle.std.proofs.lemmas.Int.{ints, to_z-of_z, quot_fits, fits_signed_from_abs}
+use Rattle.std.proofs.lemmas.Int.{ints}
 use Rattle.std.proofs.lemmas.Bool.{cases_lt, cond-true, cond-false, lt-ltb, le-ltb, lt-leb, le-leb, eq-eqb, ne_eqb, cond_both, cases_eq}
 use Rattle.std.proofs.lemmas.Bool.Decides.{Decides-int_eq, Decides-eqb, Decides-like, same_from_decides}
 use Rattle.int_ops.specs.Arithmetic as spec
@@ -14,7 +15,7 @@ use Rattle.std.proofs.Math.Logic.{⊎_elim}
 use Rattle.int_ops.specs.declared.BinOp.{BinOp}
 use Rattle.int_ops.specs.declared.BinOp.TheVariants.{Add, Sub, Mul, DivS, DivU, RemS, RemU, And, Or, Xor, Shl, ShrS, ShrU, MaxS, MinS, MaxU, MinU}
 use Rattle.int_ops.specs.Arithmetic.{IsWidth, signed_reading, residue, arith_result, exact_result, lacks_result}
-use Rattle.int_ops.proofs.Readings.{bounds, half, complement-mod, residue-below, residue-pos, reading_low, reading_high}
+use Rattle.int_ops.proofs.Readings.{bounds, half, complement-mod, residue-below, residue-pos, reading_low, reading_high, mag-reading}
 
 pub narrowed : (w n : ℕ) → w ≤ 64 → n % 2 ^ 64 % 2 ^ w ≡ n % 2 ^ w
 narrowed w n h = let e : (64 - w) + w ≡ 64 = omega arith in subst (λ k. n % 2 ^ k % 2 ^ w ≡ n % 2 ^ w) e (mod-mod-pow n (64 - w) w)
@@ -105,8 +106,14 @@ pub ruleset kept = (sum_kept, difference_kept, product_kept, and_kept, or_kept, 
 
 -- ---- signed quotients and remainders
 
-abs_neg : (n : ℕ) → unsigned_abs (neg_ℤ (pos n)) ≡ n
-abs_neg n = omega (arith, ints)
+least-negsuc : (w : ℕ) → negsuc (2 ^ (w - 1) - 1) ≡ neg_ℤ (pos (2 ^ (w - 1)))
+least-negsuc w = let p = pow_pos (w - 1) in omega (arith, ints)
+
+reading-zero : (w b : ℕ) → 0 < w → b < 2 ^ w → signed_reading w b ≡ pos 0 → b ≡ 0
+reading-zero w b some h e = ⊎_elim
+    (λ under. let f : pos b ≡ pos 0 = sym (reading_low w b under) ∙ e in omega (arith, ints))
+    (λ over. let f : negsuc (2 ^ w - 1 - b) ≡ pos 0 = sym (reading_high w b over h) ∙ e in absurd (omega (arith, ints)))
+    (cases_lt b (2 ^ (w - 1)))
 
 least_is : (w a : ℕ) → IsWidth w → a < 2 ^ w → signed_reading w a ≡ neg_ℤ (pos (2 ^ (w - 1))) → a ≡ 2 ^ (w - 1)
 least_is w a ok h e =
@@ -159,48 +166,38 @@ nonzero_reading w b ok h some =
     (λ over. subst (λ z. 0 < cast_unsigned w64 z) (sym (reading_high w b over h)) (let l : 0 < 2 ^ 64 - suc (2 ^ w - 1 - b) = omega arith in l))
     (cases_lt b (2 ^ (w - 1))))
 
-abs-quotient : (x y : ℤ) → unsigned_abs (int_div x y) ≡ unsigned_abs x / unsigned_abs y
-abs-quotient (pos a) (pos b) = refl
-abs-quotient (pos a) (negsuc b) = abs_neg (a / suc b)
-abs-quotient (negsuc a) (pos b) = abs_neg (suc a / b)
-abs-quotient (negsuc a) (negsuc b) = refl
+-- the quotient lies in the range of its operands, unless it is that of the least number by -1
+mag-neg : (n : ℕ) → mag (neg_ℤ (pos n)) ≤ n
+mag-neg zero = zero-le
+mag-neg (suc n) = omega arith
 
-reading-fits : (w a : ℕ) → IsWidth w → a < 2 ^ w → FitsSigned w64 (signed_reading w a)
-reading-fits w a ok h =
-    let b = bounds w ok in
-    let two = half w b.0 in
-    let wide : 2 ^ (w - 1) ≤ 2 ^ 63 = pow_mono {i = w - 1} {j = 63} (omega arith) in
-    ⊎_elim
-    (λ under. subst (FitsSigned w64) (sym (reading_low w a under)) (record { sfits = omega arith }))
-    (λ over. subst (FitsSigned w64) (sym (reading_high w a over h)) (record { sfits = omega arith }))
-    (cases_lt a (2 ^ (w - 1)))
+pub mag-quotient : (x y : ℤ) (half : ℕ) → mag x < half → ¬ (y ≡ pos 0) → ¬ ((x ≡ negsuc (half - 1)) × (y ≡ negsuc 0)) → mag (int_div x y) < half
+mag-quotient (pos a) (pos b) half h some apart = omega (arith, div-le_self a b)
+mag-quotient (negsuc a) (pos b) half h some apart =
+    let less = div-le_self (suc a) b in
+    elim (suc a / b) as (λ n. n ≤ suc a → mag (neg_ℤ (pos n)) < half) [ zero ↦ λ l. omega arith | suc n ↦ λ l. omega arith ] less
+mag-quotient (pos a) (negsuc b) half h some apart = omega (arith, div-le_self a (suc b), mag-neg (a / suc b))
+mag-quotient (negsuc a) (negsuc b) half h some apart = ⊎_elim
+    (λ one. let e : (negsuc b ≡ negsuc 0) = ap negsuc one in
+        let less = div-le_self (suc a) (suc b) in
+        let other : ¬ (a ≡ half - 1) = λ f. apart (ap negsuc f, e) in
+        omega arith)
+    (λ more. let less : suc a / suc b < suc a = div-lt_self (omega arith) (omega arith) in omega arith)
+    (cases_eq b 0)
 
--- the quotient fits 64 bits, unless it is that of the least number by -1
-quotient-fits : (w a b : ℕ) → IsWidth w → a < 2 ^ w → b < 2 ^ w → ¬ ((a ≡ 2 ^ (w - 1)) × (b ≡ 2 ^ w - 1)) → ¬ (b ≡ 0) → FitsSigned w64 (int_div (signed_reading w a) (signed_reading w b))
-quotient-fits w a b ok p q apart some =
-    let bound = bounds w ok in
-    let two = half w bound.0 in
-    let wide : 2 ^ (w - 1) ≤ 2 ^ 63 = pow_mono {i = w - 1} {j = 63} (omega arith) in
-    ⊎_elim
-    (λ under. subst (λ z. FitsSigned w64 (int_div (signed_reading w a) z)) (sym (reading_low w b under))
-        (quot_fits w64 (signed_reading w a) (pos b) (reading-fits w a ok p) (let l : pos 0 <ℤ pos b = omega (arith, ints) in l)))
-    (λ over. let size = abs-quotient (signed_reading w a) (negsuc (2 ^ w - 1 - b)) in
-        subst (λ z. FitsSigned w64 (int_div (signed_reading w a) z)) (sym (reading_high w b over q))
-        (fits_signed_from_abs w64 (int_div (signed_reading w a) (negsuc (2 ^ w - 1 - b))) (⊎_elim
-            (λ low. let small = div-le_self a (suc (2 ^ w - 1 - b)) in let is = size ∙ ap (λ z. unsigned_abs z / suc (2 ^ w - 1 - b)) (reading_low w a low) in omega arith)
-            (λ high. let is = size ∙ ap (λ z. unsigned_abs z / suc (2 ^ w - 1 - b)) (reading_high w a high p) in
-                ⊎_elim
-                (λ one. let small = div-le_self (suc (2 ^ w - 1 - a)) (suc (2 ^ w - 1 - b)) in
-                    let other : a ≢ 2 ^ (w - 1) = λ e. apart (e, one) in omega arith)
-                (λ more. let smaller : suc (2 ^ w - 1 - a) / suc (2 ^ w - 1 - b) < suc (2 ^ w - 1 - a) = div-lt_self (omega arith) (omega arith) in omega arith)
-                (cases_eq b (2 ^ w - 1)))
-            (cases_lt a (2 ^ (w - 1))))))
-    (cases_lt b (2 ^ (w - 1)))
+-- the quotient of two readings, where it is wanted
+pub mag-signed_quotient : (w a b : ℕ) → IsWidth w → a < 2 ^ w → b < 2 ^ w → ¬ ((a ≡ 2 ^ (w - 1)) × (b ≡ 2 ^ w - 1)) → ¬ (b ≡ 0) → mag (int_div (signed_reading w a) (signed_reading w b)) < 2 ^ (w - 1)
+mag-signed_quotient w a b ok p q apart some = mag-quotient (signed_reading w a) (signed_reading w b) (2 ^ (w - 1)) (mag-reading w a (bounds w ok).0 p)
+    (λ e. some (reading-zero w b (bounds w ok).0 q e))
+    (λ e. apart (least_is w a ok p (e.0 ∙ least-negsuc w), minus_one_is w b ok q e.1))
 
 -- ---- the signed quotient
 
 pub division_test : (w a b : ℕ) → IsWidth w → a < 2 ^ w → b < 2 ^ w → lacks_result w DivS a b ≡ (b == 0 || a == 2 ^ (w - 1) && b == 2 ^ w - 1)
 division_test w a b ok p q = (λ i. b == 0 || least_test w a ok p i && minus_one_test w b ok q i)
 
+wide : (w : ℕ) → IsWidth w → 2 ^ (w - 1) ≤ 2 ^ 63
+wide w ok = pow_mono {i = w - 1} {j = 63} (omega (arith, (bounds w ok).1))
+
 pub divisible : (w a b : ℕ) → IsWidth w → a < 2 ^ w → b < 2 ^ w → ¬ ((a ≡ 2 ^ (w - 1)) × (b ≡ 2 ^ w - 1)) → ¬ (b ≡ 0) → CanDivide w64 (signed_reading w a) (signed_reading w b)
-divisible w a b ok p q apart some = ((nonzero_reading w b ok q some).1, quotient-fits w a b ok p q apart some)
+divisible w a b ok p q apart some = ((nonzero_reading w b ok q some).1, record { sfits = omega (arith, mag-signed_quotient w a b ok p q apart some, wide w ok) })

@@ -8,6 +8,7 @@ ghost use Rattle.std.specs.Prelude.{◌≡◌, ◌^◌, ◌<◌, IfSome};
 ghost use Rattle.int_ops.specs.Arithmetic.{bits_of, arith_result, compares};
 
 mod fixed;
+pub mod laws;
 
 pub use fixed::Int;
 
