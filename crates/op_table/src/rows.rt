@@ -25,7 +25,7 @@ pub enum Level {
 }
 
 /// What the table says of one kind of operation.
-#[derive(Clone, Copy, Debug)]
+#[derive(Clone, Copy, PartialEq, Eq, Debug)]
 pub struct OpRow {
     /// The full name, with its dialect.
     pub name: &'static str,
