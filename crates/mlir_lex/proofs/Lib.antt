@@ -1,2 +1,4 @@
 pub mod Closed
 pub mod Reading
+pub mod Longest
+pub mod Sound
