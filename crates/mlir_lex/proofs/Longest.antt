@@ -184,7 +184,7 @@ leads-64 : lead_of 64 ≡ lead.Symbol
 unfolding lead_of is_in
 leads-64 = refl
 
-leads-34 : lead_of 34 ≡ lead.Quote
+pub leads-34 : lead_of 34 ≡ lead.Quote
 unfolding lead_of is_in
 leads-34 = refl
 
