@@ -4,3 +4,4 @@ pub mod Longest
 pub mod Sound
 pub mod Front
 pub mod Means
+pub mod Whole

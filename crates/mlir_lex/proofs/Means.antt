@@ -1,5 +1,5 @@
 -- The computed reading of a text is what the grammar says, and nothing else is.
-use Rattle.std.proofs.Common.{◌≡◌, ◌⊎◌, inl, inr, ⊎_elim, ℕ, zero, suc, ◌+◌, ◌-◌, ◌<◌, ◌≤◌, Bool, true, false, not, ◌&&◌, cond, eqb, List, [], ◌∷◌, ◌++◌, length, drop, take, get_or, Option, Some, None, Result, Ok, Err, refl, ap, sym, ◌∙◌, subst, arith, length-take, length-take-le, take-append-drop, length-append}
+use Rattle.std.proofs.Common.{◌≡◌, ◌⊎◌, inl, inr, ⊎_elim, ℕ, zero, suc, ◌+◌, ◌-◌, ◌<◌, ◌≤◌, Bool, true, false, not, ◌&&◌, cond, eqb, List, [], ◌∷◌, ◌++◌, length, drop, take, get_or, Option, Some, None, Result, Ok, Err, refl, ap, sym, ◌∙◌, subst, arith, length-take, length-take-le, take-append-drop, length-append, length-drop, ◌↔◌}
 use Rattle.std.proofs.lemmas.Bool.{false≢true, true≢false, and_parts, and_from, and_cases, eqb-true, eq-eqb}
 use Rattle.std.proofs.lemmas.Bool.Decides.{nat_tests}
 use Rattle.std.proofs.lemmas.List.Sums.{prefix_len-le-length}
@@ -19,7 +19,8 @@ use Rattle.mlir_lex.specs.declared.scan.Item.TheVariants as item
 use Rattle.mlir_lex.specs.Bytes.{is_in, past}
 use Rattle.mlir_lex.specs.Grammar.{all_in, ends_quoted, is_quoted, is_token, IsLongest, EndsLine, IsComment, BeginsNothing, IsOpenQuote, is_digits, before, token_at, Reads}
 use Rattle.mlir_lex.specs.Grammar.Reads.{ended, blank, comment, token, point, open_string, bad_byte}
-use Rattle.mlir_lex.specs.Scan.{quoted_len, string_len, lead_of, front, piece_of, item_of, read}
+use Rattle.mlir_lex.specs.Scan.{quoted_len, string_len, lead_of, front, piece_of, item_of, read, reading}
+use Rattle.mlir_lex.specs.Answer.{is_end, AreInOrder}
 use Rattle.mlir_lex.proofs.Longest.{leads-34, quoted-append, all-append, starts_tells}
 use Rattle.mlir_lex.proofs.Sound.{all-take, quoted_passes}
 use Rattle.mlir_lex.proofs.Front.{empty_token, front_longest, front_none, front_of_longest}
@@ -343,3 +344,62 @@ read-Reads (b ∷ bs) at digits zero within =
         let f : at + 1 + (suc n - 1) ≡ at + 0 + suc n = omega arith in
         subst (λ k. Reads (at + 0 + suc n) d (drop k bs) (read (drop k bs) (at + 0 + suc n) d 0)) e
         (subst (λ m. Reads m d (drop (suc n - 1) bs) (read (drop (suc n - 1) bs) m d 0)) f r)
+
+-- ---- a whole text
+
+pub reading_means : (text : List ℕ) (outcome : Result (List Token) LexFault) → reading text ≡ outcome → Reads 0 false text outcome
+reading_means text outcome e = subst (Reads 0 false text) e (read-Reads text 0 false 0 (omega arith))
+
+pub one_reading : (text : List ℕ) (outcome : Result (List Token) LexFault) → Reads 0 false text outcome ↔ (reading text ≡ outcome)
+one_reading text outcome = (λ r. Reads-read 0 false text outcome r, reading_means text outcome)
+
+-- ---- order
+
+abbrev IfTokens : Result (List Token) LexFault → (List Token → Type 0) → Type 0
+IfTokens (Ok ts) P = P ts
+IfTokens (Err e) P = Unit {0}
+
+no_end : (kind : TokenKind) (text : List ℕ) → is_token kind text ≡ true → is_end kind ≡ false
+no_end End text e = absurd (false≢true e)
+no_end _ text e = refl
+
+-- tokens that are in order from here are so from any place before
+earlier : (from at len : ℕ) (ts : List Token) → from ≤ at → AreInOrder at ts len → AreInOrder from ts len
+earlier from at len [] le h = h
+earlier from at len (t ∷ []) le h = (omega (arith, h.0), h.1)
+earlier from at len (t ∷ u ∷ ts) le h = (omega (arith, h.0), h.1, h.2, h.3)
+
+earlier_outcome : (from at len : ℕ) (o : Result (List Token) LexFault) → from ≤ at → IfTokens o (λ ts. AreInOrder at ts len) → IfTokens o (λ ts. AreInOrder from ts len)
+earlier_outcome from at len (Ok ts) le h = earlier from at len ts le h
+earlier_outcome from at len (Err e) le h = tt
+
+one_more : (kind : TokenKind) (at end len : ℕ) (o : Result (List Token) LexFault) → at < end → is_end kind ≡ false
+    → IfTokens o (λ ts. AreInOrder end ts len) → IfTokens (before (token_at kind at end) o) (λ ts. AreInOrder at ts len)
+one_more kind at end len (Ok []) lt other h = absurd h
+one_more kind at end len (Ok (t ∷ ts)) lt other h = (omega arith, lt, other, h)
+one_more kind at end len (Err e) lt other h = tt
+
+at_len : (o : Result (List Token) LexFault) (at m n : ℕ) → m ≡ n → IfTokens o (λ ts. AreInOrder at ts m) → IfTokens o (λ ts. AreInOrder at ts n)
+at_len o at m n e h = subst (λ n. IfTokens o (λ ts. AreInOrder at ts n)) e h
+
+ordered : (at : ℕ) (digits : Bool) (text : List ℕ) (outcome : Result (List Token) LexFault) → Reads at digits text outcome → IfTokens outcome (λ ts. AreInOrder at ts (at + length text))
+ordered at digits text outcome (ended at' digits') = let e : at' ≡ at' + 0 = omega arith in (omega arith, ap (λ n. token_at End n n) e)
+ordered at digits text outcome (blank at' digits' b rest outcome' is later) =
+    earlier_outcome at' (at' + 1) _ outcome' (omega arith) (at_len outcome' (at' + 1) _ _ (omega arith) (ordered (at' + 1) false rest outcome' later))
+ordered at digits text outcome (comment at' digits' bytes rest outcome' is later) =
+    earlier_outcome at' (at' + length bytes) _ outcome' (omega arith)
+    (at_len outcome' (at' + length bytes) _ _ (omega (arith, length-append bytes rest)) (ordered (at' + length bytes) false rest outcome' later))
+ordered at digits text outcome (token at' digits' text' kind n outcome' is later) =
+    let some = (token_has_byte kind n text' is).1 in
+    one_more kind at' (at' + n) (at' + length text') outcome' (omega arith) (no_end kind (take n text') is.token)
+    (at_len outcome' (at' + n) _ _ (omega (arith, length-drop n text', is.within)) (ordered (at' + n) (is_digits kind) (drop n text') outcome' later))
+ordered at digits text outcome (point at' rest outcome' later) =
+    one_more (Byte 46) at' (at' + 1) (at' + suc (length rest)) outcome' (omega arith) refl (at_len outcome' (at' + 1) _ _ (omega arith) (ordered (at' + 1) false rest outcome' later))
+ordered at digits text outcome (open_string at' digits' text' is) = tt
+ordered at digits text outcome (bad_byte at' digits' text' nothing no_open no_point) = tt
+
+pub in_order : (text : List ℕ) (ts : List Token) → reading text ≡ Ok ts → AreInOrder 0 ts (length text)
+in_order text ts e =
+    let h = ordered 0 false text (Ok ts) (reading_means text (Ok ts) e) in
+    let zero_len : 0 + length text ≡ length text = omega arith in
+    subst (λ n. AreInOrder 0 ts n) zero_len h

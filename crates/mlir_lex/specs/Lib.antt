@@ -3,3 +3,4 @@ pub mod Grammar
 pub mod Scan
 pub mod Within
 pub mod Answer
+pub mod Laws
