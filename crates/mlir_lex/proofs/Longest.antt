@@ -125,10 +125,13 @@ ahead-name (b ∷ s) rest e = go (memref_len text) refl
   where
     text : List ℕ
     text = b ∷ (s ++ rest)
+
     parts : (is_in NameStart b ≡ true) × (all_in NamePart s ≡ true)
     parts = and_parts (is_in NameStart b) (all_in NamePart s) e
+
     name_len : length s ≤ prefix_len (is_in NamePart) (s ++ rest)
     name_len = all-append NamePart s rest parts.1
+
     go : (o : Option ℕ) → memref_len text ≡ o → Ahead Name (b ∷ s) rest
     go None is = by_length Name (b ∷ s) rest (1 + prefix_len (is_in NamePart) (s ++ rest)) (rw (word_leads b parts.0, is) refl) (omega (arith, name_len))
     go (Some n) is =
@@ -160,8 +163,10 @@ ahead-signed_name kind sign (b ∷ s) rest leads e = go s (some-parts SuffixPart
   where
     parts : (eqb b sign ≡ true) × (some_in SuffixPart s ≡ true)
     parts = and_parts (eqb b sign) (some_in SuffixPart s) e
+
     leads_b : lead_of b ≡ lead.Signed kind
     leads_b = ap lead_of (eqb-true b sign parts.0) ∙ leads
+
     go : (x : List ℕ) → (c : ℕ) × (t : List ℕ) × (x ≡ c ∷ t) × (is_in SuffixPart c ≡ true) × (all_in SuffixPart t ≡ true) → Ahead kind (b ∷ x) rest
     go x (c, t, is, first, all) =
         let len = all-append SuffixPart (c ∷ t) rest (and_from (is_in SuffixPart c) (all_in SuffixPart t) first all) in
@@ -203,8 +208,10 @@ ahead-symbol_name (b ∷ s) rest e = go s (some-parts SuffixPart s parts.1)
   where
     parts : (eqb b 64 ≡ true) × (some_in SuffixPart s ≡ true)
     parts = and_parts (eqb b 64) (some_in SuffixPart s) e
+
     leads_b : lead_of b ≡ lead.Symbol
     leads_b = ap lead_of (eqb-true b 64 parts.0) ∙ leads-64
+
     go : (x : List ℕ) → (c : ℕ) × (t : List ℕ) × (x ≡ c ∷ t) × (is_in SuffixPart c ≡ true) × (all_in SuffixPart t ≡ true) → Ahead SymbolName (b ∷ x) rest
     go x (c, t, is, first, all) =
         let len = all-append SuffixPart (c ∷ t) rest (and_from (is_in SuffixPart c) (all_in SuffixPart t) first all) in
@@ -265,10 +272,13 @@ ahead-digits (b ∷ s) rest e = go (starts_with nat_eq text (codes "0x") && is_i
   where
     text : List ℕ
     text = b ∷ (s ++ rest)
+
     parts : (is_in Digit b ≡ true) × (all_in Digit s ≡ true)
     parts = and_parts (is_in Digit b) (all_in Digit s) e
+
     len : length s ≤ prefix_len (is_in Digit) (s ++ rest)
     len = all-append Digit s rest parts.1
+
     go : (t : Bool) → (starts_with nat_eq text (codes "0x") && is_in HexDigit (get_or text 2 0)) ≡ t → Ahead Digits (b ∷ s) rest
     go false is = by_length Digits (b ∷ s) rest (1 + prefix_len (is_in Digit) (s ++ rest)) (rw (digit_leads b parts.0, is) refl) (omega (arith, len))
     go true is =
@@ -282,6 +292,7 @@ ahead-hex s rest e = go (drop 2 s) (starts_tells s (codes "0x") parts.0) (some-p
   where
     parts : (starts_with nat_eq s (codes "0x") ≡ true) × (some_in HexDigit (drop 2 s) ≡ true)
     parts = and_parts (starts_with nat_eq s (codes "0x")) (some_in HexDigit (drop 2 s)) e
+
     go : (x : List ℕ) → s ≡ codes "0x" ++ x → (d : ℕ) × (t : List ℕ) × (x ≡ d ∷ t) × (is_in HexDigit d ≡ true) × (all_in HexDigit t ≡ true) → Ahead Hex s rest
     go x starts (d, t, is, first, all) =
         let len = all-append HexDigit (d ∷ t) rest (and_from (is_in HexDigit d) (all_in HexDigit t) first all) in
@@ -309,9 +320,11 @@ ahead-mark mark s rest e = subst (λ s. Ahead (Byte mark) s rest) (sym ((bytes_e
   where
     parts : (is_in Mark mark ≡ true) × (bytes_eq s (mark ∷ []) ≡ true)
     parts = and_parts (is_in Mark mark) (bytes_eq s (mark ∷ [])) e
+
     then_dash : (t : Bool) → eqb (get_or rest 0 0) 62 ≡ t → Ahead (Byte 45) (45 ∷ []) rest
     then_dash true is = ((Arrow, 2), rw (leads-45, is) refl, inl (omega arith))
     then_dash false is = by_length (Byte 45) (45 ∷ []) rest 1 (rw (leads-45, is) refl) (omega arith)
+
     go : (t : Bool) → eqb mark 45 ≡ t → Ahead (Byte mark) (mark ∷ []) rest
     go true is = subst (λ m. Ahead (Byte m) (m ∷ []) rest) (sym (eqb-true mark 45 is)) (then_dash (eqb (get_or rest 0 0) 62) refl)
     go false is = by_length (Byte mark) (mark ∷ []) rest 1 (rw (mark_leads mark parts.0 is) refl) (omega arith)

@@ -110,11 +110,11 @@ abbrev pub read : List ℕ → ℕ → Bool → ℕ → Result (List Token) LexF
 read [] at digits left = Ok (token_at End at at ∷ [])
 read (b ∷ bs) at digits (suc left) = read bs (at + 1) digits left
 read (b ∷ bs) at digits zero = elim (item_of digits (b ∷ bs)) [
-    item.Gap n ↦ read bs (at + 1) false (n - 1)
+  | item.Gap n ↦ read bs (at + 1) false (n - 1)
   | item.Piece kind n ↦ before (token_at kind at (at + n)) (read bs (at + 1) (is_digits kind) (n - 1))
   | item.OpenString ↦ Err (fault.OpenString at)
   | item.BadByte ↦ Err (fault.BadByte at)
-  ]
+]
 
 -- a whole text
 abbrev pub reading : List ℕ → Result (List Token) LexFault

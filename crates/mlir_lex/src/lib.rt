@@ -13,9 +13,8 @@ mod kinds;
 mod scan;
 mod strings;
 
-use std::alloc::Global;
-
 pub use kinds::{LexFault, Token, TokenKind};
+use std::alloc::Global;
 
 /// Cuts a text into its tokens. Blanks and comments stand between them, and the last token is
 /// `End`, at the text's length.
@@ -50,11 +49,12 @@ pub fn tokens(alloc: Global, bytes: &[u8]) -> Result<Vec<Token>, LexFault>
 /// A text has one reading by the grammar, and it is the one that is computed.
 pub fn one_reading()
     ensures { OneReading }
-{
-}
+{}
 
 /// No bytes are a token of two kinds.
 pub fn one_kind()
     ensures { OneKind }
-{
-}
+{}
+
+#[cfg(test)]
+mod tests;
