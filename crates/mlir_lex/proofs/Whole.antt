@@ -54,7 +54,7 @@ kind_is b bs kind e =
     let a = ahead kind (b ∷ bs) [] e in
     let found : front (b ∷ bs) ≡ Some a.0 = ap front (sym (append-nil (b ∷ bs))) ∙ a.1 in
     let cut = front_cuts b bs a.0 found in
-    (a.0, found, ⊎_elim (λ less. absurd (omega (arith, less, cut.0))) (λ same. same.1) a.2)
+    (a.0, found, ⊎_elim (λ less. absurd (omega (arith, less.0, cut.0))) (λ same. same.1) a.2)
 
 pub one_kind : (text : List ℕ) (kind other : TokenKind) → is_token kind text ≡ true → is_token other text ≡ true → kind ≡ other
 one_kind [] kind other e f = absurd (empty_token kind e)

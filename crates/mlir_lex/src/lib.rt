@@ -3,7 +3,7 @@
 
 ghost use Rattle.std.specs.Prelude.{◌≡◌, ◌<◌, ◌^◌, length, IfOk, IfErr, Ok, IsUtf8};
 ghost use Rattle.mlir_lex.specs.Answer.{AreTokens, AreInOrder, IsFault, Refuses};
-ghost use Rattle.mlir_lex.specs.Laws.{OneReading, OneKind};
+ghost use Rattle.mlir_lex.specs.Laws.{OneKind, OneReading, ReadBack};
 ghost use Rattle.mlir_lex.specs.Scan.{reading};
 
 mod brackets;
@@ -50,6 +50,12 @@ pub fn tokens(alloc: Global, bytes: &[u8]) -> Result<Vec<Token>, LexFault>
 pub fn one_reading()
     ensures { OneReading }
 {}
+
+/// A token with what can't lengthen it behind it is read back as itself.
+pub fn read_back()
+    ensures { ReadBack }
+{
+}
 
 /// No bytes are a token of two kinds.
 pub fn one_kind()
