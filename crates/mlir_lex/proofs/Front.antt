@@ -1,9 +1,8 @@
 -- `front` gives the longest token, and gives none only where none begins.
-use Rattle.std.proofs.Common.{◌≡◌, ◌⊎◌, inl, inr, ⊎_elim, ℕ, zero, suc, ◌+◌, ◌-◌, ◌<◌, ◌≤◌, min, Bool, true, false, not, ◌&&◌, cond, eqb, List, [], ◌∷◌, ◌++◌, length, drop, take, get_or, Option, Some, None, refl, ap, sym, ◌∙◌, subst, arith, length-take, length-take-le, take-append-drop}
-use Rattle.std.proofs.lemmas.Bool.{false≢true, and_parts, and_right, cases_order}
+use Rattle.std.proofs.Common.{◌≡◌, ◌⊎◌, inl, inr, ⊎_elim, ℕ, ◌<◌, ◌≤◌, min, true, false, List, [], ◌∷◌, ◌++◌, length, drop, take, Option, Some, None, ap, sym, ◌∙◌, subst, arith, length-take-le, take-append-drop}
+use Rattle.std.proofs.lemmas.Bool.{false≢true, and_parts}
 use Rattle.std.proofs.lemmas.List.{take_min}
 use Rattle.std.proofs.lemmas.Option.{same_Some}
-use Rattle.std.specs.Str.{bytes_eq}
 use Rattle.mlir_lex.specs.declared.kinds.TokenKind.{TokenKind}
 use Rattle.mlir_lex.specs.declared.kinds.TokenKind.TheVariants.{Name, ValueName, BlockName, SymbolName, HashName, SymbolText, Digits, Hex, Text, Memref, BangName, Arrow, Byte, End}
 use Rattle.mlir_lex.specs.declared.bytes.ByteClass.TheVariants.{Mark}
@@ -11,8 +10,8 @@ use Rattle.mlir_lex.specs.Bytes.{is_in}
 use Rattle.mlir_lex.specs.Grammar.{is_token, IsLongest}
 use Rattle.mlir_lex.specs.Laws.{is_apart}
 use Rattle.mlir_lex.specs.Scan.{front}
-use Rattle.mlir_lex.proofs.Longest.{Ahead, ahead}
-use Rattle.mlir_lex.proofs.Sound.{IsCut, front_cuts}
+use Rattle.mlir_lex.proofs.Longest.{ahead}
+use Rattle.mlir_lex.proofs.Sound.{front_cuts}
 
 -- a token has a byte
 pub empty_token : (kind : TokenKind) → is_token kind [] ≡ true → ⊥

@@ -1,5 +1,5 @@
 -- No token at the front of a text is longer than the one that `front` gives.
-use Rattle.std.proofs.Common.{◌≡◌, ◌⊎◌, inl, inr, ⊎_elim, ℕ, zero, suc, ◌+◌, ◌-◌, ◌<◌, ◌≤◌, Bool, true, false, not, ◌&&◌, cond, eqb, List, [], ◌∷◌, ◌++◌, length, drop, take, get_or, Option, Some, None, refl, ap, sym, ◌∙◌, subst, arith}
+use Rattle.std.proofs.Common.{◌≡◌, ◌⊎◌, inl, inr, ⊎_elim, ℕ, suc, ◌+◌, ◌<◌, ◌≤◌, Bool, true, false, not, ◌&&◌, cond, eqb, List, [], ◌∷◌, ◌++◌, length, drop, take, get_or, Option, Some, None, refl, ap, sym, ◌∙◌, subst, arith}
 use Rattle.std.proofs.lemmas.Bool.{false≢true, and_parts, and_from, and_left, and_right, eqb-true, eq-eqb, cases_lt, cases_order}
 use Rattle.std.proofs.lemmas.Bool.Decides.{nat_tests, Decides-eqb}
 use Rattle.std.proofs.lemmas.Slice.Eq.{starts_is, bytes_eq-Decides}
@@ -9,16 +9,15 @@ use Rattle.std.specs.Prelude.{nat_eq}
 use Rattle.std.specs.Str.{bytes_eq}
 use lib.Chars.{codes}
 use Rattle.mlir_lex.specs.declared.bytes.ByteClass.{ByteClass}
-use Rattle.mlir_lex.specs.declared.bytes.ByteClass.TheVariants.{Blank, Line, NameStart, NamePart, SuffixPart, Digit, HexDigit, Mark}
+use Rattle.mlir_lex.specs.declared.bytes.ByteClass.TheVariants.{NameStart, NamePart, SuffixPart, Digit, HexDigit, Mark}
 use Rattle.mlir_lex.specs.declared.strings.Escape.TheVariants as escape
 use Rattle.mlir_lex.specs.declared.kinds.TokenKind.{TokenKind}
 use Rattle.mlir_lex.specs.declared.kinds.TokenKind.TheVariants.{Name, ValueName, BlockName, SymbolName, HashName, SymbolText, Digits, Hex, Text, Memref, BangName, Arrow, Byte, End}
-use Rattle.mlir_lex.specs.declared.scan.Lead.{Lead}
 use Rattle.mlir_lex.specs.declared.scan.Lead.TheVariants as lead
 use Rattle.mlir_lex.specs.Bytes.{is_in}
 use Rattle.mlir_lex.specs.Grammar.{is_empty, all_in, some_in, is_name, is_signed_name, is_hex, ends_quoted, is_quoted, escapes_well, is_string, is_symbol_text, is_bang_name, open_after, ends_bracket, is_memref, is_mark, is_token}
 use Rattle.mlir_lex.specs.Laws.{is_apart}
-use Rattle.mlir_lex.specs.Scan.{quote_end, quoted_len, string_len, bracket_end, memref_len, word, number, signed_name, symbol, bang_name, dash, lead_of, front_from, front}
+use Rattle.mlir_lex.specs.Scan.{quote_end, string_len, bracket_end, memref_len, lead_of, front}
 
 -- ---- lengths
 
@@ -164,14 +163,19 @@ ahead-name (b ∷ s) rest e = go (memref_len text) refl
         (λ more. and_left (not (is_in NamePart (get_or rest 0 0))) _ (not_false _ (more_in NamePart s rest parts.1 (omega (arith, more)))))
     go (Some n) is =
         let m = memref_front text n is in
-        let six : prefix_len (is_in NamePart) (s ++ rest) ≡ 5 = ap (λ l. prefix_len (is_in NamePart) (drop 1 l)) m.1 ∙ memref_name (drop 7 text) in
-        ((Memref, n), rw (word_leads b parts.0, is) refl,
-         inl (omega (arith, name_len, six, m.0), ⊎_elim
-         (λ short. and_left (not (is_in NamePart (get_or rest 0 0))) _ (not_false _ (more_in NamePart s rest parts.1 (omega (arith, short, six)))))
-         (λ long.
-             let len : length (b ∷ s) ≡ 6 = omega (arith, name_len, six, long) in
-             and_right (not (is_in NamePart (get_or rest 0 0))) _ (not_false _ (memref_apart (b ∷ s) rest (drop 7 text) len m.1)))
-         (cases_lt (length s) 5)))
+        let six : prefix_len (is_in NamePart) (s ++ rest) ≡ 5 = ap (λ l. prefix_len (is_in NamePart) (drop 1 l)) m.1 ∙ memref_name (drop 7 text) in (
+          (Memref, n),
+          rw (word_leads b parts.0, is) refl,
+          inl (
+            omega (arith, name_len, six, m.0),
+            ⊎_elim
+                (λ short. and_left (not (is_in NamePart (get_or rest 0 0))) _ (not_false _ (more_in NamePart s rest parts.1 (omega (arith, short, six)))))
+                (λ long.
+                let len : length (b ∷ s) ≡ 6 = omega (arith, name_len, six, long) in
+                and_right (not (is_in NamePart (get_or rest 0 0))) _ (not_false _ (memref_apart (b ∷ s) rest (drop 7 text) len m.1)))
+                (cases_lt (length s) 5),
+          ),
+        )
 
 pub start_is_part : (b : ℕ) → is_in NameStart b ≡ true → is_in NamePart b ≡ true
 unfolding is_in
@@ -208,7 +212,7 @@ ahead-signed_name kind sign (b ∷ s) rest leads apart e = go s (some-parts Suff
         let len = all-append SuffixPart (c ∷ t) rest (and_from (is_in SuffixPart c) (all_in SuffixPart t) first all) in
         subst (λ x. is_apart kind (b ∷ x) rest ≡ not (is_in SuffixPart (get_or rest 0 0)) → Ahead kind (b ∷ x) rest) (sym is)
         (λ apart. by_length kind (b ∷ c ∷ t) rest (1 + prefix_len (is_in SuffixPart) (c ∷ (t ++ rest))) (rw (leads_b, first) refl) (omega (arith, len))
-         (λ more. apart ∙ not_false _ (more_in SuffixPart (c ∷ t) rest (and_from (is_in SuffixPart c) (all_in SuffixPart t) first all) (omega (arith, more)))))
+        (λ more. apart ∙ not_false _ (more_in SuffixPart (c ∷ t) rest (and_from (is_in SuffixPart c) (all_in SuffixPart t) first all) (omega (arith, more)))))
         apart
 
 leads-37 : lead_of 37 ≡ lead.Signed ValueName
@@ -255,7 +259,7 @@ ahead-symbol_name (b ∷ s) rest e = go s (some-parts SuffixPart s parts.1)
         let len = all-append SuffixPart (c ∷ t) rest (and_from (is_in SuffixPart c) (all_in SuffixPart t) first all) in
         subst (λ x. Ahead SymbolName (b ∷ x) rest) (sym is)
         (by_length SymbolName (b ∷ c ∷ t) rest (1 + prefix_len (is_in SuffixPart) (c ∷ (t ++ rest))) (rw (leads_b, first) refl) (omega (arith, len))
-         (λ more. not_false _ (more_in SuffixPart (c ∷ t) rest (and_from (is_in SuffixPart c) (all_in SuffixPart t) first all) (omega (arith, more)))))
+        (λ more. not_false _ (more_in SuffixPart (c ∷ t) rest (and_from (is_in SuffixPart c) (all_in SuffixPart t) first all) (omega (arith, more)))))
 
 -- a string is read whole
 string-append : (s rest : List ℕ) → is_string s ≡ true → string_len (s ++ rest) ≡ Some (length s)
@@ -332,9 +336,11 @@ ahead-digits (b ∷ s) rest e = go (starts_with nat_eq text (codes "0x") && is_i
         (λ more. and_left (not (is_in Digit (get_or rest 0 0))) _ (not_false _ (more_in Digit s rest parts.1 (omega (arith, more)))))
     go true is =
         let starts = starts_tells text (codes "0x") (and_parts (starts_with nat_eq text (codes "0x")) (is_in HexDigit (get_or text 2 0)) is).0 in
-        let one : prefix_len (is_in Digit) (s ++ rest) ≡ 0 = ap (λ l. prefix_len (is_in Digit) (drop 1 l)) starts ∙ hex_digits (drop 2 text) in
-        ((Hex, 2 + prefix_len (is_in HexDigit) (drop 2 text)), rw (digit_leads b parts.0, is) refl,
-         inl (omega (arith, len, one), and_right (not (is_in Digit (get_or rest 0 0))) _ (not_false _ (zero_apart b s rest (drop 2 text) (omega (arith, len, one)) starts))))
+        let one : prefix_len (is_in Digit) (s ++ rest) ≡ 0 = ap (λ l. prefix_len (is_in Digit) (drop 1 l)) starts ∙ hex_digits (drop 2 text) in (
+          (Hex, 2 + prefix_len (is_in HexDigit) (drop 2 text)),
+          rw (digit_leads b parts.0, is) refl,
+          inl (omega (arith, len, one), and_right (not (is_in Digit (get_or rest 0 0))) _ (not_false _ (zero_apart b s rest (drop 2 text) (omega (arith, len, one)) starts))),
+        )
 
 ahead-hex : (s rest : List ℕ) → is_hex s ≡ true → Ahead Hex s rest
 unfolding front
@@ -349,7 +355,7 @@ ahead-hex s rest e = go (drop 2 s) (starts_tells s (codes "0x") parts.0) (some-p
         let whole : s ≡ 48 ∷ 120 ∷ d ∷ t = starts ∙ ap (λ x. 48 ∷ 120 ∷ x) is in
         subst (λ s. Ahead Hex s rest) (sym whole)
         (by_length Hex (48 ∷ 120 ∷ d ∷ t) rest (2 + prefix_len (is_in HexDigit) (d ∷ (t ++ rest))) (rw (leads-48, first) refl) (omega (arith, len))
-         (λ more. not_false _ (more_in HexDigit (d ∷ t) rest (and_from (is_in HexDigit d) (all_in HexDigit t) first all) (omega (arith, more)))))
+        (λ more. not_false _ (more_in HexDigit (d ∷ t) rest (and_from (is_in HexDigit d) (all_in HexDigit t) first all) (omega (arith, more)))))
 
 ahead-memref : (s rest : List ℕ) → is_memref s ≡ true → Ahead Memref s rest
 unfolding front

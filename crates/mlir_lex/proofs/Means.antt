@@ -1,6 +1,6 @@
 -- The computed reading of a text is what the grammar says, and nothing else is.
-use Rattle.std.proofs.Common.{◌≡◌, ◌⊎◌, inl, inr, ⊎_elim, ℕ, zero, suc, ◌+◌, ◌-◌, ◌<◌, ◌≤◌, Bool, true, false, not, ◌&&◌, cond, eqb, List, [], ◌∷◌, ◌++◌, length, drop, take, get_or, Option, Some, None, Result, Ok, Err, refl, ap, sym, ◌∙◌, subst, arith, length-take, length-take-le, take-append-drop, length-append, length-drop, ◌↔◌}
-use Rattle.std.proofs.lemmas.Bool.{false≢true, true≢false, and_parts, and_from, and_cases, eqb-true, eq-eqb}
+use Rattle.std.proofs.Common.{◌≡◌, ℕ, zero, suc, ◌+◌, ◌-◌, ◌<◌, ◌≤◌, Bool, true, false, ◌&&◌, cond, eqb, List, [], ◌∷◌, ◌++◌, length, drop, take, get_or, Option, Some, None, Result, Ok, Err, refl, ap, sym, ◌∙◌, subst, arith, length-take-le, take-append-drop, length-append, length-drop, ◌↔◌}
+use Rattle.std.proofs.lemmas.Bool.{false≢true, true≢false, and_parts, and_from, eqb-true, eq-eqb}
 use Rattle.std.proofs.lemmas.Bool.Decides.{nat_tests}
 use Rattle.std.proofs.lemmas.List.Sums.{prefix_len-le-length}
 use Rattle.std.proofs.Math.Seq.{drop-append_seam}
@@ -13,18 +13,17 @@ use Rattle.mlir_lex.specs.declared.kinds.Token.{Token}
 use Rattle.mlir_lex.specs.declared.kinds.TokenKind.{TokenKind}
 use Rattle.mlir_lex.specs.declared.kinds.TokenKind.TheVariants.{Byte, End}
 use Rattle.mlir_lex.specs.declared.kinds.LexFault.{LexFault}
-use Rattle.mlir_lex.specs.declared.kinds.LexFault.TheVariants.{OpenString, BadByte}
 use Rattle.mlir_lex.specs.declared.scan.Lead.TheVariants as lead
 use Rattle.mlir_lex.specs.declared.scan.Item.TheVariants as item
 use Rattle.mlir_lex.specs.Bytes.{is_in, past}
 use Rattle.mlir_lex.specs.Grammar.{all_in, ends_quoted, is_quoted, is_token, IsLongest, EndsLine, IsComment, BeginsNothing, IsOpenQuote, is_digits, before, token_at, Reads}
 use Rattle.mlir_lex.specs.Grammar.Reads.{ended, blank, comment, token, point, open_string, bad_byte}
 use Rattle.mlir_lex.specs.Scan.{quoted_len, string_len, lead_of, front, piece_of, item_of, read, reading}
-use Rattle.mlir_lex.specs.Answer.{is_end, AreInOrder}
-use Rattle.mlir_lex.proofs.Longest.{leads-34, quoted-append, all-append, starts_tells}
+use Rattle.mlir_lex.specs.Answer.{is_end, AreInOrder, AreWithin}
+use Rattle.mlir_lex.proofs.Longest.{leads-34, quoted-append, starts_tells}
 use Rattle.mlir_lex.proofs.Sound.{all-take, quoted_passes}
 use Rattle.mlir_lex.proofs.Front.{empty_token, front_longest, front_none, front_of_longest}
-use Rattle.mlir_lex.proofs.Reading.{read-left, read-gap, read-piece, read-open_string, read-bad_byte}
+use Rattle.mlir_lex.proofs.Reading.{read-gap, read-piece, read-open_string, read-bad_byte}
 
 -- ---- comments
 
@@ -408,3 +407,18 @@ in_order text ts e =
     let h = ordered 0 false text (Ok ts) (reading_means text (Ok ts) e) in
     let zero_len : 0 + length text ≡ length text = omega arith in
     subst (λ n. AreInOrder 0 ts n) zero_len h
+
+below_length : (from len : ℕ) (ts : List Token) → AreInOrder from ts len → from ≤ len
+below_length from len [] h = absurd h
+below_length from len (t ∷ []) h = h.0
+below_length from len (t ∷ u ∷ ts) h = omega (arith, h.0, h.1, below_length t.end len (u ∷ ts) h.3)
+
+in_order_within : (from len : ℕ) (ts : List Token) → AreInOrder from ts len → AreWithin ts len
+in_order_within from len [] h k d in_list = absurd h
+in_order_within from len (t ∷ []) h zero d in_list = (omega (arith, ap (λ x. x.start) h.1, ap (λ x. x.end) h.1), omega (arith, ap (λ x. x.end) h.1))
+in_order_within from len (t ∷ []) h (suc k) d in_list = absurd (omega arith)
+in_order_within from len (t ∷ u ∷ ts) h zero d in_list = (omega (arith, h.1), below_length t.end len (u ∷ ts) h.3)
+in_order_within from len (t ∷ u ∷ ts) h (suc k) d in_list = in_order_within t.end len (u ∷ ts) h.3 k d (omega arith)
+
+pub within : (text : List ℕ) (ts : List Token) → reading text ≡ Ok ts → AreWithin ts (length text)
+within text ts e = in_order_within 0 (length text) ts (in_order text ts e)

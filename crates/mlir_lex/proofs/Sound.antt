@@ -1,7 +1,6 @@
 -- What `front` gives is a token of its kind.
-use Rattle.std.proofs.Common.{◌≡◌, ◌⊎◌, inl, inr, ℕ, zero, suc, ◌+◌, ◌-◌, ◌<◌, ◌≤◌, Bool, true, false, not, ◌&&◌, cond, eqb, List, [], ◌∷◌, ◌++◌, length, drop, take, get_or, Option, Some, None, refl, ap, sym, ◌∙◌, subst, arith, length-drop}
-use Rattle.std.proofs.lemmas.Bool.{false≢true, true≢false, and_parts, and_from, eqb-true, eq-eqb}
-use Rattle.std.proofs.lemmas.List.{drop-take}
+use Rattle.std.proofs.Common.{◌≡◌, ℕ, suc, ◌+◌, ◌≤◌, Bool, true, false, not, ◌&&◌, cond, eqb, List, [], ◌∷◌, ◌++◌, length, drop, take, get_or, Option, Some, None, refl, ap, sym, ◌∙◌, subst, arith}
+use Rattle.std.proofs.lemmas.Bool.{false≢true, and_from, eqb-true, eq-eqb}
 use Rattle.std.proofs.lemmas.List.Sums.{prefix_len-le-length}
 use Rattle.std.proofs.lemmas.Option.{same_Some}
 use Rattle.std.specs.List.{prefix_len, starts_with}
@@ -10,14 +9,14 @@ use Rattle.std.specs.Prelude.{nat_eq}
 use Rattle.std.specs.Str.{bytes_eq}
 use lib.Chars.{codes}
 use Rattle.mlir_lex.specs.declared.bytes.ByteClass.{ByteClass}
-use Rattle.mlir_lex.specs.declared.bytes.ByteClass.TheVariants.{Blank, Line, NameStart, NamePart, SuffixPart, Digit, HexDigit, Mark}
+use Rattle.mlir_lex.specs.declared.bytes.ByteClass.TheVariants.{NameStart, NamePart, SuffixPart, Digit, HexDigit, Mark}
 use Rattle.mlir_lex.specs.declared.strings.Escape.TheVariants as escape
 use Rattle.mlir_lex.specs.declared.kinds.TokenKind.{TokenKind}
-use Rattle.mlir_lex.specs.declared.kinds.TokenKind.TheVariants.{Name, ValueName, BlockName, SymbolName, HashName, SymbolText, Digits, Hex, Text, Memref, BangName, Arrow, Byte, End}
+use Rattle.mlir_lex.specs.declared.kinds.TokenKind.TheVariants.{ValueName, BlockName, SymbolName, HashName, SymbolText, Digits, Hex, Text, BangName, Arrow, Byte}
 use Rattle.mlir_lex.specs.declared.scan.Lead.{Lead}
 use Rattle.mlir_lex.specs.declared.scan.Lead.TheVariants as lead
 use Rattle.mlir_lex.specs.Bytes.{is_in, past}
-use Rattle.mlir_lex.specs.Grammar.{is_empty, all_in, some_in, is_name, is_signed_name, is_hex, ends_quoted, is_quoted, escapes_well, is_string, is_symbol_text, is_bang_name, open_after, ends_bracket, is_memref, is_mark, is_token}
+use Rattle.mlir_lex.specs.Grammar.{is_empty, all_in, some_in, is_name, is_signed_name, is_hex, ends_quoted, is_quoted, escapes_well, is_string, is_bang_name, open_after, ends_bracket, is_memref, is_token}
 use Rattle.mlir_lex.specs.Scan.{quote_end, quoted_len, string_len, bracket_end, memref_len, word, number, signed_name, symbol, bang_name, dash, lead_of, front_from, front}
 use Rattle.mlir_lex.proofs.Longest.{let_through, starts_tells, start_is_part}
 

@@ -2,7 +2,7 @@
 #![tactic(auto)]
 
 ghost use Rattle.std.specs.Prelude.{◌≡◌, ◌<◌, ◌^◌, length, IfOk, IfErr, Ok, IsUtf8};
-ghost use Rattle.mlir_lex.specs.Answer.{AreTokens, AreInOrder, IsFault, Refuses};
+ghost use Rattle.mlir_lex.specs.Answer.{AreInOrder, AreTokens, AreWithin, IsFault, Refuses};
 ghost use Rattle.mlir_lex.specs.Laws.{OneKind, OneReading, ReadBack};
 ghost use Rattle.mlir_lex.specs.Scan.{reading};
 
@@ -35,7 +35,9 @@ pub fn tokens(alloc: Global, bytes: &[u8]) -> Result<Vec<Token>, LexFault>
     // The same, computed.
     ensures same_tokens { IfOk result (λ v. reading bytes.now ≡ Ok v.items) }
     ensures same_fault { IsUtf8 bytes.now → IfErr result (λ e. Refuses e (reading bytes.now)) }
+    // Their spans.
     ensures in_order { IfOk result (λ v. AreInOrder 0 v.items (length bytes.now)) }
+    ensures within { IfOk result (λ v. AreWithin v.items (length bytes.now)) }
 {
     if let Err(error) = std::str::from_utf8(bytes) {
         return Err(LexFault::BadUtf8 {
@@ -54,8 +56,7 @@ pub fn one_reading()
 /// A token with what can't lengthen it behind it is read back as itself.
 pub fn read_back()
     ensures { ReadBack }
-{
-}
+{}
 
 /// No bytes are a token of two kinds.
 pub fn one_kind()

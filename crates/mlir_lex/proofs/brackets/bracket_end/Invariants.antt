@@ -1,4 +1,4 @@
-use Rattle.std.proofs.Common.{◌≡◌, ◌+◌, ◌≤◌, length, drop}
+use Rattle.std.proofs.Common.{◌≡◌, ◌≤◌, drop}
 use Rattle.mlir_lex.specs.Scan.{bracket_end}
 use Rattle.mlir_lex.proofs.brackets.bracket_end.Given as goal
 
