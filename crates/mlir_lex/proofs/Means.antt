@@ -6,8 +6,7 @@ use Rattle.std.proofs.lemmas.List.Sums.{prefix_len-le-length}
 use Rattle.std.proofs.Math.Seq.{drop-append_seam}
 use Rattle.std.specs.List.{prefix_len, starts_with}
 use Rattle.std.specs.Option.{is_none}
-use Rattle.std.specs.Prelude.{nat_eq}
-use lib.Chars.{codes}
+use Rattle.std.specs.Prelude.{nat_eq, codes}
 use Rattle.mlir_lex.specs.declared.bytes.ByteClass.TheVariants.{Blank, Line}
 use Rattle.mlir_lex.specs.declared.kinds.Token.{Token}
 use Rattle.mlir_lex.specs.declared.kinds.TokenKind.{TokenKind}

@@ -1,7 +1,6 @@
 -- Laws over the definitions alone.
-use Rattle.std.specs.Prelude.{◌≡◌, ℕ, Bool, true, false, not, ◌&&◌, ◌==◌, List, ◌++◌, length, slice_index, Result, ◌↔◌}
+use Rattle.std.specs.Prelude.{◌≡◌, ℕ, Bool, true, false, not, ◌&&◌, ◌==◌, List, ◌++◌, length, slice_index, Result, ◌↔◌, codes}
 use Rattle.std.specs.Str.{bytes_eq}
-use lib.Chars.{codes}
 use Rattle.mlir_lex.specs.declared.bytes.ByteClass.TheVariants.{NamePart, SuffixPart, Digit, HexDigit}
 use Rattle.mlir_lex.specs.declared.kinds.Token.{Token}
 use Rattle.mlir_lex.specs.declared.kinds.TokenKind.{TokenKind}
