@@ -1,8 +1,8 @@
 -- What rows mean by themselves, and that the rows of a function mean what its operations do.
 use Rattle.std.proofs.Common.{◌≡◌, ℕ, zero, suc, ◌+◌, ◌-◌, ◌%◌, ◌^◌, List, [], ◌∷◌, ◌++◌, map, length, cond, Option, Some, None, refl, ap, append_assoc, length-append, arith}
 use Rattle.ir_forms.specs.declared.ops.Op.{Op}
-use Rattle.ir_forms.specs.declared.ops.OpKind.{OpKind}
-use Rattle.ir_forms.specs.declared.ops.OpKind.TheVariants.{ArithAddi, ArithConstant, AsyncAwait, AsyncExecute, AsyncYield, FuncReturn}
+use Rattle.op_table.specs.declared.kind.OpKind.{OpKind}
+use Rattle.op_table.specs.declared.kind.OpKind.TheVariants.{ArithAddi, ArithConstant, AsyncAwait, AsyncExecute}
 use Rattle.ir_forms.specs.declared.ops.ValueNo.{ValueNo}
 use Rattle.ir_forms.specs.declared.runs.Out.{Out}
 use Rattle.ir_forms.specs.Ops.{kind_of, operands_of, first_ops, regions_of}
@@ -57,8 +57,7 @@ results_at ArithConstant op ops next env same = simp less_none (same next _)
 results_at ArithAddi op ops next env same = simp less_none (same next _)
 results_at AsyncAwait op ops next env same = same next env
 results_at AsyncExecute op ops next env same = same (next + 1) _
-results_at AsyncYield op ops next env same = ap Some (outs_same (operands_of op) env)
-results_at FuncReturn op ops next env same = ap Some (outs_same (operands_of op) env)
+results_at _ op ops next env same = ap Some (outs_same (operands_of op) env)
 
 pub results_mean : (ops : List Op) (next : ℕ) (env : Env) → results_rows (root_rows next ops) env ≡ results_from ops env
 results_mean [] next env = refl
@@ -76,10 +75,7 @@ region_at : (kind : OpKind) (first : ℕ) (op : Op) (ops : List Op) → length (
     → length (row_before kind first op (rows_from first ops)) + 1 ≡ cond (is_local kind) (begun_in_region ops + 1) 1
 region_at ArithConstant first op ops same = omega (arith, same)
 region_at ArithAddi first op ops same = omega (arith, same)
-region_at AsyncAwait first op ops same = refl
-region_at AsyncExecute first op ops same = refl
-region_at AsyncYield first op ops same = refl
-region_at FuncReturn first op ops same = refl
+region_at _ first op ops same = refl
 
 region_mean : (first : ℕ) (ops : List Op) → length (rows_from first ops) + 1 ≡ begun_in_region ops
 region_mean first [] = refl
@@ -95,8 +91,6 @@ begun_kind : (kind : OpKind) (op : Op) (ops : List Op) (before : List (List Loca
 begun_kind ArithConstant op ops before same = ap (λ n. n + 1) (same before)
 begun_kind ArithAddi op ops before same = ap (λ n. n + 1) (same before)
 begun_kind AsyncAwait op ops before same = ap (λ n. n + 1) (same before)
-begun_kind AsyncYield op ops before same = refl
-begun_kind FuncReturn op ops before same = refl
 begun_kind AsyncExecute op ops before same =
     let rows : List LocalRow = rows_of_region (first_ops (regions_of op)) in
     let here : length (region_rows (before ++ rows ∷ region_lists ops) (length before)) + 1 ≡ begun_in_region (first_ops (regions_of op)) =
@@ -105,6 +99,7 @@ begun_kind AsyncExecute op ops before same =
     let rest : begun_rows (before ++ rows ∷ region_lists ops) (root_rows (length before + 1) ops) ≡ begun_from ops =
     rw (← one) (rw (← append_assoc before (rows ∷ []) (region_lists ops)) (same (before ++ rows ∷ []))) in
     omega (arith, here, rest)
+begun_kind _ op ops before same = refl
 
 pub begun_mean : (ops : List Op) (before : List (List LocalRow)) → begun_rows (before ++ region_lists ops) (root_rows (length before) ops) ≡ begun_from ops
 begun_mean [] before = refl
