@@ -1,0 +1,6 @@
+pub mod Code
+pub mod Registers
+pub mod State
+pub mod Step
+pub mod Held
+pub mod Journal
