@@ -1,3 +1,4 @@
 pub mod Rows
 pub mod Puts
 pub mod Live
+pub mod AheadLemmas

@@ -4,3 +4,4 @@ pub mod State
 pub mod Step
 pub mod Held
 pub mod Journal
+pub mod Ahead
