@@ -1,5 +1,5 @@
 -- The grammar: the tree of a text, its words, and its module.
-use Rattle.std.specs.Prelude.{◌≡◌, ℕ, ◌-◌, Bool, true, false, List, [], ◌∷◌, length, take, Option, Some, None, is_some, if◌then◌else◌}
+use Rattle.std.specs.Prelude.{◌≡◌, ℕ, Bool, true, false, List, [], ◌∷◌, Option, Some, None, is_some, if◌then◌else◌, Result, Ok, Err}
 use Rattle.ir_forms.specs.declared.ops.Module.{Module}
 use Rattle.mlir_lex.specs.declared.kinds.Token.{Token}
 use Rattle.mlir_lex.specs.Answer.{AreTokens}
@@ -8,6 +8,8 @@ use Rattle.mlir_text.specs.declared.fixed.Fixed.TheVariants as words
 use Rattle.mlir_text.specs.declared.statements.Local.{Local}
 use Rattle.mlir_text.specs.declared.statements.Local.TheVariants.{Constant, Addition}
 use Rattle.mlir_text.specs.declared.block.Block.{Block}
+use Rattle.mlir_text.specs.declared.fault.TextFault.{TextFault}
+use Rattle.mlir_text.specs.declared.fault.TextFault.TheVariants.{NotYet, OutOfMemory}
 use Rattle.mlir_text.specs.Words.{Word, fixed, value, symbol, number, words_of}
 use Rattle.mlir_text.specs.Reading.{◌>>=◌}
 use Rattle.mlir_text.specs.Scopes.{Names, computed, is_free, inside, launched, awaited, returned, empty_at, module_with}
@@ -116,14 +118,36 @@ module_of (Function name items returns) =
 
 -- ---- texts
 
+-- the words are those of a tree, and this is its module
+pub record IsTree (words : List Word) (program : Module) : Type 0 where
+  pub tree : Text
+  pub spelled : words ≡ spell tree
+  pub means : module_of tree ≡ Some program
+
 -- the tokens before the last, which is the end
 abbrev pub front : List Token → List Token
-front tokens = take (length tokens - 1) tokens
+front [] = []
+front (t ∷ []) = []
+front (t ∷ u ∷ ts) = t ∷ front (u ∷ ts)
 
 -- The bytes are a text of the grammar, and this is its module.
 pub record IsText (bytes : List ℕ) (program : Module) : Type 0 where
   pub tokens : List Token
-  pub tree : Text
   pub cut : AreTokens bytes tokens
-  pub words : words_of bytes (front tokens) ≡ spell tree
-  pub means : module_of tree ≡ Some program
+  pub read : IsTree (words_of bytes (front tokens)) program
+
+-- what a call answers that makes the module of words
+abbrev pub IsModule : List Word → Result Module TextFault → Type 0
+IsModule words (Ok program) = IsTree words program
+IsModule words (Err NotYet) = (program : Module) → IsTree words program → ⊥
+IsModule words (Err OutOfMemory) = Unit {0}
+
+-- What a reader answers: the module of a text, and `NotYet` exactly where the bytes are none. Memory may run out at any time.
+abbrev pub IsParsed : List ℕ → Result Module TextFault → Type 0
+IsParsed bytes (Ok program) = IsText bytes program
+IsParsed bytes (Err NotYet) = (program : Module) → IsText bytes program → ⊥
+IsParsed bytes (Err OutOfMemory) = Unit {0}
+
+-- a text has one module
+abbrev pub OneModule : Type 0
+OneModule = (bytes : List ℕ) (program other : Module) → IsText bytes program → IsText bytes other → program ≡ other

@@ -1,5 +1,6 @@
 -- What each statement makes of the body that is being read.
 use Rattle.std.specs.Prelude.{◌≡◌, ℕ, ◌+◌, ◌^◌, ◌≤◌, Bool, true, false, List, [], ◌∷◌, Option, Some, None, if◌then◌else◌, Result, Ok, Err}
+use Rattle.ir_forms.specs.declared.ops.Module.{Module}
 use Rattle.mlir_text.specs.declared.statements.Local.{Local}
 use Rattle.mlir_text.specs.declared.statements.Local.TheVariants.{Constant, Addition}
 use Rattle.mlir_text.specs.declared.statements.Statement.{Statement}
@@ -12,7 +13,7 @@ use Rattle.mlir_text.specs.declared.fault.TextFault.TheVariants.{NotYet, OutOfMe
 use Rattle.mlir_text.specs.Words.{Word}
 use Rattle.mlir_text.specs.Reading.{◌>>=◌}
 use Rattle.mlir_text.specs.Grammar.{spell_local, spell_open, spell_close, spell_await, spell_return}
-use Rattle.mlir_text.specs.Scopes.{computed, is_free, inside, launched, awaited, returned, empty_at}
+use Rattle.mlir_text.specs.Scopes.{computed, is_free, inside, launched, awaited, returned, empty_at, module_with}
 
 abbrev pub with_outer : Body → Block → Body
 with_outer s b = record { outer = b; launch = s.launch; has_result = s.has_result; is_closed = s.is_closed }
@@ -69,6 +70,10 @@ add statement s = if s.is_closed then None else add_open statement s
 abbrev pub start : Bool → Body
 start has_result = record { outer = empty_at 0 2; launch = None; has_result = has_result; is_closed = false }
 
+-- the module of a function's body that is closed
+abbrev pub finish : List ℕ → Body → Option Module
+finish name s = if s.is_closed then Some (module_with name s.has_result s.outer) else None
+
 -- the block that is being read
 abbrev pub current : Option Launch → Block → Block
 current (Some launch) outer = launch.block
@@ -120,3 +125,9 @@ pub record Reads (from : Body) (words : List Word) (to : Body) : Type 0 where
 pub record SameReads (from : Body) (words : List Word) (start : Body) (all : List Word) : Type 0 where
   pub back : (to : Body) → Reads from words to → Reads start all to
   pub on : (to : Body) → Reads start all to → Reads from words to
+
+-- what a call that reads the words to their end answers
+abbrev pub IsBody : Body → List Word → Result Body TextFault → Type 0
+IsBody from words (Ok to) = Reads from words to
+IsBody from words (Err NotYet) = (to : Body) → Reads from words to → ⊥
+IsBody from words (Err OutOfMemory) = Unit {0}

@@ -9,6 +9,8 @@ use crate::fault::TextFault;
 use crate::names::Names;
 use crate::statements::{Local, Statement};
 use crate::words::Bytes;
+use ir_forms::Op;
+use lists::Items;
 use std::alloc::Global;
 
 /// A region that is being read, and the name of its token.
@@ -116,5 +118,10 @@ impl<'a> Body<'a> {
         self.outer.give(alloc, name)?;
         self.is_closed = true;
         Ok(())
+    }
+    pub fn into_ops(self) -> Items<Op>
+        ensures { result ≡ self.entry.outer.ops }
+    {
+        self.outer.ops
     }
 }

@@ -8,7 +8,9 @@ mod fixed;
 mod literals;
 mod names;
 mod ops;
+mod reader;
 mod statements;
 mod words;
 
 pub use fault::TextFault;
+pub use reader::{one_module, parse};
