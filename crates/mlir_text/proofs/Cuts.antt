@@ -54,12 +54,16 @@ few_words (t ∷ ts) text h = let few = count_from t ts 0 (length text) h in let
 -- a text has one list of tokens
 one_list : OneReading → (text : List ℕ) (ts us : List Token) → AreTokens text ts → AreTokens text us → ts ≡ us
 one_list law text ts us a b =
-    let both : Ok {E = LexFault} ts ≡ Ok us = sym ((law text (Ok ts)).0 a.1) ∙ (law text (Ok us)).0 b.1 in
+    let one : Result (List Token) LexFault = Ok ts in
+    let other : Result (List Token) LexFault = Ok us in
+    let both : one ≡ other = sym ((law text (Ok ts)).0 a.1) ∙ (law text (Ok us)).0 b.1 in
     cc
 
 none_at : OneReading → (text : List ℕ) (why : LexFault) (ts : List Token) → reading text ≡ Err why → AreTokens text ts → ⊥
 none_at law text why ts e a =
-    let both : Err {T = List Token} why ≡ Ok ts = sym e ∙ (law text (Ok ts)).0 a.1 in
+    let one : Result (List Token) LexFault = Err why in
+    let other : Result (List Token) LexFault = Ok ts in
+    let both : one ≡ other = sym e ∙ (law text (Ok ts)).0 a.1 in
     cc
 
 -- a fault of its tokens is one of a text

@@ -28,7 +28,7 @@ computed-grows : (around : Names) (local : Local) (b : Block) → IfSome (comput
 computed-grows around local b =
     cond-is (Grows b) (is_free (name_of local) around b.names) (local_op local b >>= λ op. Some (defined (name_of local) op b))
     (then-is (λ _. Unit {0}) (Grows b) (λ op. Some (defined (name_of local) op b)) (local_op local b) (any-is (local_op local b))
-        (λ op h. (refl, omega arith)))
+    (λ op h. (refl, omega arith)))
 
 awaited-grows : (name : List ℕ) (b : Block) → IfSome (awaited name b) (Grows b)
 awaited-grows name b =
@@ -76,7 +76,7 @@ give-grows name None s =
     cond-is (BodyGrows None s) (agrees s.has_result name)
     (returned name s.outer >>= λ b. Some (record { outer = b; launch = None; has_result = s.has_result; is_closed = true }))
     (then-is (Grows s.outer) (BodyGrows None s) (λ b. Some (record { outer = b; launch = None; has_result = s.has_result; is_closed = true }))
-        (returned name s.outer) (returned-grows name s.outer) (λ b h. h))
+    (returned name s.outer) (returned-grows name s.outer) (λ b h. h))
 
 add_open-grows : (statement : Statement) (s : Body) → IfSome (add_open statement s) (BodyGrows s.launch s)
 add_open-grows (Compute local) s = compute-grows local s.launch s refl

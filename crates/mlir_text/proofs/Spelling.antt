@@ -52,9 +52,9 @@ module _ (name : List ℕ) where
       (λ p. number_type p.1 >>= λ rest. Some (Compute (Constant name negative p.0), rest)) (taken Digits ws)
       (taken-is Digits front all ws e)
       (λ p h. then-is (λ rest. all ≡ front (number p.0 ∷ spell_type rest)) (IsSpelled all)
-          (λ rest. Some (Compute (Constant name negative p.0), rest)) (number_type p.1)
-          (type-is (λ r. front (number p.0 ∷ r)) all p.1 h)
-          (λ rest g. g))
+      (λ rest. Some (Compute (Constant name negative p.0), rest)) (number_type p.1)
+      (type-is (λ r. front (number p.0 ∷ r)) all p.1 h)
+      (λ rest g. g))
 
   constant-is : (all ws : List Word) → all ≡ equals (fixed words.Constant ∷ ws) → IfSome (constant name ws) (IsSpelled all)
   constant-is all ws e =
@@ -69,18 +69,18 @@ module _ (name : List ℕ) where
       let front : List Word → List Word = λ r. equals (fixed words.Addi ∷ r) in
       then-is (λ left. all ≡ front (value left.0 ∷ left.1)) (IsSpelled all)
       (λ left. after words.Comma left.1 >>= λ rest. taken ValueName rest >>= λ right. number_type right.1 >>= λ end.
-          Some (Compute (Addition name left.0 right.0), end))
+      Some (Compute (Addition name left.0 right.0), end))
       (taken ValueName ws) (taken-is ValueName front all ws e)
       (λ left h. then-is (λ rest. all ≡ front (value left.0 ∷ fixed words.Comma ∷ rest)) (IsSpelled all)
-          (λ rest. taken ValueName rest >>= λ right. number_type right.1 >>= λ end. Some (Compute (Addition name left.0 right.0), end))
-          (after words.Comma left.1) (after-is words.Comma (λ r. front (value left.0 ∷ r)) all left.1 h)
-          (λ rest i. then-is (λ right. all ≡ front (value left.0 ∷ fixed words.Comma ∷ value right.0 ∷ right.1)) (IsSpelled all)
-              (λ right. number_type right.1 >>= λ end. Some (Compute (Addition name left.0 right.0), end))
-              (taken ValueName rest) (taken-is ValueName (λ r. front (value left.0 ∷ fixed words.Comma ∷ r)) all rest i)
-              (λ right j. then-is (λ end. all ≡ front (value left.0 ∷ fixed words.Comma ∷ value right.0 ∷ spell_type end)) (IsSpelled all)
-                  (λ end. Some (Compute (Addition name left.0 right.0), end))
-                  (number_type right.1) (type-is (λ r. front (value left.0 ∷ fixed words.Comma ∷ value right.0 ∷ r)) all right.1 j)
-                  (λ end g. g))))
+      (λ rest. taken ValueName rest >>= λ right. number_type right.1 >>= λ end. Some (Compute (Addition name left.0 right.0), end))
+      (after words.Comma left.1) (after-is words.Comma (λ r. front (value left.0 ∷ r)) all left.1 h)
+      (λ rest i. then-is (λ right. all ≡ front (value left.0 ∷ fixed words.Comma ∷ value right.0 ∷ right.1)) (IsSpelled all)
+      (λ right. number_type right.1 >>= λ end. Some (Compute (Addition name left.0 right.0), end))
+      (taken ValueName rest) (taken-is ValueName (λ r. front (value left.0 ∷ fixed words.Comma ∷ r)) all rest i)
+      (λ right j. then-is (λ end. all ≡ front (value left.0 ∷ fixed words.Comma ∷ value right.0 ∷ spell_type end)) (IsSpelled all)
+      (λ end. Some (Compute (Addition name left.0 right.0), end))
+      (number_type right.1) (type-is (λ r. front (value left.0 ∷ fixed words.Comma ∷ value right.0 ∷ r)) all right.1 j)
+      (λ end g. g))))
 
   opening-is : (all ws : List Word) → all ≡ equals ws → IfSome (opening name ws) (IsSpelled all)
   opening-is all ws e =
@@ -88,9 +88,9 @@ module _ (name : List ℕ) where
       (λ rest. after words.OpenBrace rest >>= λ end. Some (Open name, end))
       (after words.Execute ws) (after-is words.Execute equals all ws e)
       (λ rest h. then-is (λ end. all ≡ equals (fixed words.Execute ∷ fixed words.OpenBrace ∷ end)) (IsSpelled all)
-          (λ end. Some (Open name, end))
-          (after words.OpenBrace rest) (after-is words.OpenBrace (λ r. equals (fixed words.Execute ∷ r)) all rest h)
-          (λ end g. g))
+      (λ end. Some (Open name, end))
+      (after words.OpenBrace rest) (after-is words.OpenBrace (λ r. equals (fixed words.Execute ∷ r)) all rest h)
+      (λ end g. g))
 
   defined-is : (all ws : List Word) → all ≡ equals ws → IfSome (defined_by name ws) (IsSpelled all)
   defined-is all ws e =
@@ -98,9 +98,9 @@ module _ (name : List ℕ) where
       (after words.Constant ws) (λ rest. constant name rest) (branch (after words.Addi ws) (λ rest. addition name rest) (opening name ws))
       (after-is words.Constant equals all ws e) (λ rest h. constant-is all rest h)
       (branch-is (λ rest. all ≡ equals (fixed words.Addi ∷ rest)) (IsSpelled all)
-          (after words.Addi ws) (λ rest. addition name rest) (opening name ws)
-          (after-is words.Addi equals all ws e) (λ rest h. addition-is all rest h)
-          (opening-is all ws e))
+      (after words.Addi ws) (λ rest. addition name rest) (opening name ws)
+      (after-is words.Addi equals all ws e) (λ rest h. addition-is all rest h)
+      (opening-is all ws e))
 
   definition-is : (all ws : List Word) → all ≡ value name ∷ ws → IfSome (definition name ws) (IsSpelled all)
   definition-is all ws e =
@@ -115,12 +115,12 @@ waiting-is all ws e =
     (λ name. after words.Colon name.1 >>= λ rest. after words.TokenType rest >>= λ end. Some (Wait name.0, end))
     (taken ValueName ws) (taken-is ValueName front all ws e)
     (λ name h. then-is (λ rest. all ≡ front (value name.0 ∷ fixed words.Colon ∷ rest)) (IsSpelled all)
-        (λ rest. after words.TokenType rest >>= λ end. Some (Wait name.0, end))
-        (after words.Colon name.1) (after-is words.Colon (λ r. front (value name.0 ∷ r)) all name.1 h)
-        (λ rest i. then-is (λ end. all ≡ front (value name.0 ∷ fixed words.Colon ∷ fixed words.TokenType ∷ end)) (IsSpelled all)
-            (λ end. Some (Wait name.0, end))
-            (after words.TokenType rest) (after-is words.TokenType (λ r. front (value name.0 ∷ fixed words.Colon ∷ r)) all rest i)
-            (λ end g. g)))
+    (λ rest. after words.TokenType rest >>= λ end. Some (Wait name.0, end))
+    (after words.Colon name.1) (after-is words.Colon (λ r. front (value name.0 ∷ r)) all name.1 h)
+    (λ rest i. then-is (λ end. all ≡ front (value name.0 ∷ fixed words.Colon ∷ fixed words.TokenType ∷ end)) (IsSpelled all)
+    (λ end. Some (Wait name.0, end))
+    (after words.TokenType rest) (after-is words.TokenType (λ r. front (value name.0 ∷ fixed words.Colon ∷ r)) all rest i)
+    (λ end g. g)))
 
 closing-is : (all ws : List Word) → all ≡ fixed words.Yield ∷ ws → IfSome (closing ws) (IsSpelled all)
 closing-is all ws e =
@@ -135,9 +135,9 @@ given-is all ws (Some p) e h =
     (λ rest. after words.CloseBrace rest >>= λ end. Some (Give (Some p.0), end))
     (number_type p.1) (type-is (λ r. fixed words.Return ∷ value p.0 ∷ r) all p.1 h)
     (λ rest i. then-is (λ end. all ≡ fixed words.Return ∷ value p.0 ∷ spell_type (fixed words.CloseBrace ∷ end)) (IsSpelled all)
-        (λ end. Some (Give (Some p.0), end))
-        (after words.CloseBrace rest) (after-is words.CloseBrace (λ r. fixed words.Return ∷ value p.0 ∷ spell_type r) all rest i)
-        (λ end g. g))
+    (λ end. Some (Give (Some p.0), end))
+    (after words.CloseBrace rest) (after-is words.CloseBrace (λ r. fixed words.Return ∷ value p.0 ∷ spell_type r) all rest i)
+    (λ end g. g))
 given-is all ws None e h =
     then-is (λ rest. all ≡ fixed words.Return ∷ fixed words.CloseBrace ∷ rest) (IsSpelled all) (λ end. Some (Give None, end))
     (after words.CloseBrace ws) (after-is words.CloseBrace (λ r. fixed words.Return ∷ r) all ws e)
@@ -156,12 +156,12 @@ statement-spelled ws =
     (branch (after words.Await ws) (λ rest. waiting rest) (branch (after words.Yield ws) (λ rest. closing rest) (giving ws)))
     (taken-is ValueName (λ r. r) ws ws refl) (λ p h. definition-is p.0 ws p.1 h)
     (branch-is (λ rest. ws ≡ fixed words.Await ∷ rest) (IsSpelled ws)
-        (after words.Await ws) (λ rest. waiting rest) (branch (after words.Yield ws) (λ rest. closing rest) (giving ws))
-        (after-is words.Await (λ r. r) ws ws refl) (λ rest h. waiting-is ws rest h)
-        (branch-is (λ rest. ws ≡ fixed words.Yield ∷ rest) (IsSpelled ws)
-            (after words.Yield ws) (λ rest. closing rest) (giving ws)
-            (after-is words.Yield (λ r. r) ws ws refl) (λ rest h. closing-is ws rest h)
-            (giving-is ws)))
+    (after words.Await ws) (λ rest. waiting rest) (branch (after words.Yield ws) (λ rest. closing rest) (giving ws))
+    (after-is words.Await (λ r. r) ws ws refl) (λ rest h. waiting-is ws rest h)
+    (branch-is (λ rest. ws ≡ fixed words.Yield ∷ rest) (IsSpelled ws)
+    (after words.Yield ws) (λ rest. closing rest) (giving ws)
+    (after-is words.Yield (λ r. r) ws ws refl) (λ rest h. closing-is ws rest h)
+    (giving-is ws)))
 
 pub at_some : {A : Type 0} (P : A → Type 0) (o : Option A) (x : A) → o ≡ Some x → IfSome o P → P x
 at_some P o x e h = let Q : Option _ → Type 0 = λ q. IfSome q P in subst Q e h

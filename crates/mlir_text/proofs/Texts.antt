@@ -55,7 +55,7 @@ to_tree words m f = by (shape f.head.has_result f.body (is_closed f.head.name f.
     by : IsWhole f.head.has_result f.read.statements → IsTree words m
     by w =
         let added : add_all (flat w.items w.returns) (start (is_some w.returns)) ≡ Some f.body
-            = sym (ap₂ (λ ss b. add_all ss (start b)) w.same w.result) ∙ f.read.added in
+        = sym (ap₂ (λ ss b. add_all ss (start b)) w.same w.result) ∙ f.read.added in
         record {
           tree = Function f.head.name w.items w.returns;
           spelled = spell-header words f.head f.rest f.headed ∙ ap (λ b. spell_header f.head.name b f.rest) w.result
@@ -71,7 +71,7 @@ headless words some e m t = let f = from_tree words m some t in none_or_some (he
 -- the same header, and the same statements
 same_read : (words : List Word) (h : Header) (rest : List Word) (m : Module) → header words ≡ Some (h, rest) → (f : IsFunction words m)
     → (f.head ≡ h) × (f.rest ≡ rest)
-same_read words h rest m e f = some_pair h f.head rest f.rest (header words) e f.headed
+same_read words h rest m e f = let same = some_pair h f.head rest f.rest (header words) e f.headed in (same.0, sym same.1)
 
 same_start : (words : List Word) (h : Header) (rest : List Word) (m : Module) → header words ≡ Some (h, rest) → (f : IsFunction words m)
     → Reads (start h.has_result) rest f.body
@@ -105,7 +105,11 @@ pub whole : (words : List Word) (h : Header) (rest : List Word) (d : Body) (m : 
     → Reads (start h.has_result) rest d → d.is_closed ≡ true → m ≡ module_with h.name d.has_result d.outer → IsTree words m
 whole words h rest d m e r shut is =
     to_tree words m (record {
-      head = h; rest = rest; body = d; headed = e; read = r;
+      head = h;
+      rest = rest;
+      body = d;
+      headed = e;
+      read = r;
       ended = ap (λ b. cond b (Some (module_with h.name d.has_result d.outer)) None) shut ∙ sym (ap Some is);
     })
 

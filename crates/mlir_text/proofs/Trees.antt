@@ -66,7 +66,7 @@ locals-added (l ∷ ls) ss b h name inner = by (λ c. locals-added ls ss b h nam
     by : ((c : Block) → add_all (flat_locals ls ss) (state b (within name c) h) ≡ (locals_in b.names ls c >>= λ d. add_all ss (state b (within name d) h)))
         → (o : Option Block)
         → ((o >>= λ c. Some (state b (within name c) h)) >>= λ t. add_all (flat_locals ls ss) t)
-            ≡ ((o >>= λ c. locals_in b.names ls c) >>= λ c. add_all ss (state b (within name c) h))
+        ≡ ((o >>= λ c. locals_in b.names ls c) >>= λ c. add_all ss (state b (within name c) h))
     by more None = refl
     by more (Some c) = more c
 
@@ -100,14 +100,14 @@ items-added (item ∷ items) ss b h = item-added item (flat_items items ss) b h 
 
 return-added : (name : List ℕ) (v : Option ValueNo) (c : Block)
     → ((((v >>= λ x. Some (with_op (return_op c.at (x ∷ []) (i64 ∷ [])) c)) >>= λ d. Some (record { outer = d; launch = None; has_result = true; is_closed = true }))
-        >>= λ t. Some t) >>= λ t. finish name t)
-      ≡ ((v >>= λ x. Some (with_op (return_op c.at (x ∷ []) (i64 ∷ [])) c)) >>= λ d. Some (module_with name true d))
+    >>= λ t. Some t) >>= λ t. finish name t)
+    ≡ ((v >>= λ x. Some (with_op (return_op c.at (x ∷ []) (i64 ∷ [])) c)) >>= λ d. Some (module_with name true d))
 return-added name None c = refl
 return-added name (Some x) c = refl
 
 end-added : (name : List ℕ) (r : Option (List ℕ)) (o : Option Block)
     → ((o >>= λ c. add_all (Give r ∷ []) (state c None (is_some r))) >>= λ d. finish name d)
-      ≡ (o >>= λ b. returned r b >>= λ c. Some (module_with name (is_some r) c))
+    ≡ (o >>= λ b. returned r b >>= λ c. Some (module_with name (is_some r) c))
 unfolding add
 end-added name None None = refl
 end-added name (Some x) None = refl
@@ -211,6 +211,7 @@ shape h d ends [] b l e =
   where
     by : Some (state b l h) ≡ Some d → false ≡ d.is_closed
     by e = let parts : state b l h ≡ d = cc in ap (λ (s : Body). s.is_closed) parts
+
     true_or_false : false ≡ true → ⊥
     true_or_false e = cc
 shape h d ends (s ∷ ss) b l e = first h d ss (λ c m f. shape h d ends ss c m f) s l b e

@@ -106,7 +106,8 @@ impl<'a> Block<'a> {
             return Err(TextFault::NotYet);
         }
         let op = self.local_op(alloc, &local)?;
-        self.names.add(local.into_name(), Bound::Number(ValueNo(self.values)))?;
+        self.names
+            .add(local.into_name(), Bound::Number(ValueNo(self.values)))?;
         self.ops.push(op)?;
         self.values += 1;
         self.at += 1;

@@ -119,6 +119,7 @@ impl<'a> Body<'a> {
         self.is_closed = true;
         Ok(())
     }
+
     pub fn into_ops(self) -> Items<Op>
         ensures { result ≡ self.entry.outer.ops }
     {

@@ -14,3 +14,6 @@ mod words;
 
 pub use fault::TextFault;
 pub use reader::{one_module, parse};
+
+#[cfg(test)]
+mod tests;

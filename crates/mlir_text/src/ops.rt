@@ -98,12 +98,7 @@ pub fn body(alloc: Global, ops: Items<Op>) -> Region
     }
 }
 
-pub fn launch(
-    alloc: Global,
-    at: u32,
-    token: ValueNo,
-    ops: Items<Op>,
-) -> Result<Op, AllocError>
+pub fn launch(alloc: Global, at: u32, token: ValueNo, ops: Items<Op>) -> Result<Op, AllocError>
     ensures { IfOk result (λ op. op ≡ spec.execute_op at token ops) }
 {
     Ok(Op {

@@ -35,11 +35,7 @@ fn read_body<'a>(
 }
 
 /// The module of one function.
-fn module_with(
-    alloc: Global,
-    name: &Bytes<'_>,
-    body: Body<'_>,
-) -> Result<Module, AllocError>
+fn module_with(alloc: Global, name: &Bytes<'_>, body: Body<'_>) -> Result<Module, AllocError>
     ensures { IfOk result (λ m. m ≡ scopes.module_with name.now body.entry.has_result body.entry.outer) }
 {
     let mut results = Items::new(alloc);

@@ -11,10 +11,12 @@ returns-in_default c = λ to r. no_statement c.read.words c.read.body c.read-tes
 pub read-preserved : goal.read-preserved
 read-preserved c =
     let grown : (next_op c.add.new.self ≡ next_op c.read.body + 1) × (next_value c.add.new.self ≤ next_value c.read.body + 1)
-        = add-grows c.in-Some.statement c.read.body c.add.new.self c.in_ok-add.ensures in
-    let shorter : length c.statement.new.self + 2 ≤ length c.read.words = c.in-Some.ensures.shorter in
-    (same_step c.read.words c.statement.new.self c.in-Some.statement c.read.body c.add.new.self _ _ c.in-Some.ensures.value c.in_ok-add.ensures c.read.invariant.0,
-    omega arith, omega arith)
+    = add-grows c.in-Some.statement c.read.body c.add.new.self c.in_ok-add.ensures in
+    let shorter : length c.statement.new.self + 2 ≤ length c.read.words = c.in-Some.ensures.shorter in (
+      same_step c.read.words c.statement.new.self c.in-Some.statement c.read.body c.add.new.self _ _ c.in-Some.ensures.value c.in_ok-add.ensures c.read.invariant.0,
+      omega arith,
+      omega arith,
+    )
 
 pub returns-in_err-add : goal.returns-in_err-add
 returns-in_err-add c =
