@@ -2,8 +2,8 @@
 -- each region that it launches.
 use Rattle.std.specs.Prelude.{ℕ, ◌+◌, ◌-◌, cond, List, [], ◌∷◌, ◌++◌, map}
 use Rattle.ir_forms.specs.declared.ops.Op.{Op}
-use Rattle.ir_forms.specs.declared.ops.OpKind.{OpKind}
-use Rattle.ir_forms.specs.declared.ops.OpKind.TheVariants.{ArithAddi, ArithConstant, AsyncAwait, AsyncExecute}
+use Rattle.op_table.specs.declared.kind.OpKind.{OpKind}
+use Rattle.op_table.specs.declared.kind.OpKind.TheVariants.{ArithAddi, ArithConstant, AsyncAwait, AsyncExecute}
 use Rattle.ir_forms.specs.declared.ops.Func.{Func}
 use Rattle.ir_forms.specs.Ops.{kind_of, operands_of, results_of, attr_of, regions_of, ops_of, first_ops, number_at}
 use Rattle.ir_forms.specs.Meaning.{literal_bits, goes_on}

@@ -5,6 +5,7 @@
 mod ahead;
 mod code;
 mod ends;
+mod laws;
 mod machine;
 mod table;
 mod tasks;
@@ -12,6 +13,5 @@ mod values;
 
 pub use code::{LocalRow, RootRow, Straight};
 pub use ends::{Counts, End, Entry, Step};
+pub use laws::{replays_are_runs, straight_replays_mean, straight_runs_mean};
 pub use machine::Core;
-pub use tasks::{Body, Object, ObjectState, Task};
-pub use values::{Registers, Val};
