@@ -13,7 +13,7 @@ is_local_at code Root place = is_local_row (slice_get code.root place)
 is_local_at code (Launched region token) place = is_some (slice_get (region_rows code.regions region) place)
 
 -- how many local rows stand at this place and behind it in a row, at most so many
-abbrev pub local_from : (ℕ → Bool) → ℕ → ℕ → ℕ
+unfoldable pub local_from : (ℕ → Bool) → ℕ → ℕ → ℕ
 local_from is_local zero place = 0
 local_from is_local (suc most) place = cond (is_local place) (local_from is_local most (place + 1) + 1) 0
 
