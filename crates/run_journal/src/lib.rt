@@ -2,6 +2,7 @@
 #![tactic(auto)]
 
 mod faults;
+mod growth;
 mod laws;
 mod reading;
 mod replaying;
@@ -11,7 +12,8 @@ mod writing;
 
 pub use step_core::Entry;
 pub use faults::{JournalFault, ReplayFault, TaskLook};
+pub use growth::entries_stay_within;
 pub use laws::{no_journal_with_bad_line, one_bad_line, one_journal};
 pub use reading::read_journal;
-pub use replaying::replay;
+pub use replaying::{replay, take_entry, task_look};
 pub use writing::{journal_text, push_journal};
