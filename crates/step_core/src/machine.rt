@@ -1,7 +1,7 @@
 ghost use Rattle.std.specs.Prelude.{◌≡◌, ◌+◌, ◌-◌, ◌<◌, ◌≤◌, ◌^◌, ◌↔◌, ◌∷◌, [], length, map, slice_get, Some, None, IfOk, OnErr, IsTrue, IsSome, vec_len};
 ghost use Rattle.std.specs.Option.{option_copied};
 ghost use Rattle.step_core.specs.Held.{CanMove, IsThere, HeldAnd, IsStep, ready_task, with_task};
-ghost use Rattle.step_core.specs.State.{start_state, new_task, IsFinished, counts_of};
+ghost use Rattle.step_core.specs.State.{start_state, new_task, live, IsFinished, counts_of};
 ghost use Rattle.step_core.specs.Step.{core_step, root_step, launched, goes_on, after_local, awaits, await_object, await_value, returned, ended, results_in, region_rows};
 ghost use Rattle.step_core.specs.Registers.{value_at};
 ghost use Rattle.step_core.specs.Journal.{next_is_local};
@@ -326,6 +326,13 @@ impl<'a> Core<'a> {
         ensures { option_copied result ≡ self.now.root_end }
     {
         self.root_end.as_ref()
+    }
+
+    /// How many tasks have not ended.
+    pub fn left(&self) -> usize
+        ensures { result ≡ live self.now.tasks }
+    {
+        self.left
     }
 
     /// Whether the root has ended and no task is left.
