@@ -92,7 +92,7 @@ impl<const W: u32> Int<W> {
         }
     }
 
-    /// `DivS`.
+    /// The result of `DivS`.
     #[tactic(auto, unfolding(crate::specs::Arithmetic::arith_result))]
     fn signed_quotient(a: u64, b: u64) -> Option<u64>
         requires width { IsWidth W }
@@ -120,6 +120,7 @@ impl<const W: u32> Int<W> {
         b != 0 && !(a == 1 << (W - 1) && b == Self::mask())
     }
 
+    /// The result of `RemS`.
     #[tactic(auto, unfolding(crate::specs::Arithmetic::arith_result), using(crate::proofs::Results::nonzero_reading))]
     fn signed_remainder(a: u64, b: u64) -> Option<u64>
         requires width { IsWidth W }
@@ -135,6 +136,7 @@ impl<const W: u32> Int<W> {
         }
     }
 
+    /// The result of `Shl`.
     #[tactic(auto, unfolding(crate::specs::Arithmetic::arith_result), using(crate::proofs::Results::shl_kept))]
     fn shifted_left(a: u64, b: u64) -> Option<u64>
         requires { IsWidth W }
@@ -148,6 +150,7 @@ impl<const W: u32> Int<W> {
         }
     }
 
+    /// The result of `ShrU`.
     #[tactic(auto, unfolding(crate::specs::Arithmetic::arith_result), using(crate::proofs::Results::shr_kept))]
     fn shifted_right(a: u64, b: u64) -> Option<u64>
         requires width { IsWidth W }
@@ -158,6 +161,7 @@ impl<const W: u32> Int<W> {
         if b < W as u64 { Some(a >> b) } else { None }
     }
 
+    /// The result of `ShrS`.
     #[tactic(auto, unfolding(crate::specs::Arithmetic::arith_result))]
     fn signed_shifted_right(a: u64, b: u64) -> Option<u64>
         requires width { IsWidth W }
