@@ -44,6 +44,7 @@ is_hex bs = starts_with nat_eq bs (codes "0x") && some_in HexDigit (drop 2 bs)
 
 -- Bytes up to the first quote that no backslash hides, which is the last byte. No newline is among them.
 -- `hidden` says whether a backslash hides the next byte: one that is itself hidden hides nothing.
+-- The byte 10 is the newline, 34 the quote, 92 the backslash.
 abbrev pub ends_quoted : List ℕ → Bool → Bool
 ends_quoted [] hidden = false
 ends_quoted (b ∷ bs) hidden =
@@ -86,7 +87,7 @@ abbrev pub is_bang_name : List ℕ → Bool
 is_bang_name [] = false
 is_bang_name (b ∷ bs) = b == 33 && is_name bs
 
--- how many brackets are open within a memref after one more byte
+-- how many brackets are open within a memref after one more byte (60 is `<`, 62 `>`)
 abbrev pub open_after : ℕ → ℕ → ℕ
 open_after b inner = if b == 60 then inner + 1 else (if b == 62 then inner - 1 else inner)
 
@@ -103,7 +104,8 @@ is_memref bs = starts_with nat_eq bs (codes "memref<") && ends_bracket (drop 7 b
 abbrev pub is_mark : ℕ → List ℕ → Bool
 is_mark mark bs = is_in Mark mark && bytes_eq bs (mark ∷ [])
 
--- The bytes are a token of the kind. (The end of the text has no bytes, and the point no token of its own: see `Reads`.)
+-- The bytes are a token of the kind. The byte 37 is `%`, 94 `^`, 64 `@`, 35 `#`.
+-- The end of the text has no bytes, and the point is a token only behind digits: `Reads` has both.
 abbrev pub is_token : TokenKind → List ℕ → Bool
 is_token Name bs = is_name bs
 is_token ValueName bs = is_signed_name 37 bs
