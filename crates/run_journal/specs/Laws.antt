@@ -1,6 +1,6 @@
 -- Bytes are read in one way: as one list of entries, or as one first bad line, and never as both.
 use Rattle.std.specs.Prelude.{◌≡◌, ℕ, List}
-use Rattle.run_journal.specs.declared.entries.Entry.{Entry}
+use Rattle.step_core.specs.declared.ends.Entry.{Entry}
 use Rattle.run_journal.specs.Lines.{journal_lines, AreEntries, IsFirstBadLine}
 
 abbrev pub OneJournal : Type 0

@@ -5,3 +5,4 @@ pub mod Meant
 pub mod Work
 pub mod Kept
 pub mod Runs
+pub mod AheadLemmas

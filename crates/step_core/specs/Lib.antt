@@ -5,3 +5,4 @@ pub mod Step
 pub mod Held
 pub mod Journal
 pub mod Laws
+pub mod Ahead

@@ -2,6 +2,7 @@
 //! returned and no task is left.
 #![tactic(auto)]
 
+mod ahead;
 mod code;
 mod ends;
 mod laws;

@@ -5,6 +5,7 @@ ghost use Rattle.step_core.specs.State.{start_state, new_task, IsFinished, count
 ghost use Rattle.step_core.specs.Step.{core_step, root_step, launched, goes_on, after_local, awaits, await_object, await_value, returned, ended, results_in, region_rows};
 ghost use Rattle.step_core.specs.Registers.{value_at};
 ghost use Rattle.step_core.specs.Journal.{next_is_local};
+ghost use Rattle.step_core.specs.Ahead.{local_ahead};
 
 use crate::code::{LocalRow, RootRow, Straight};
 use crate::ends::{Counts, End, Step};
@@ -305,6 +306,18 @@ impl<'a> Core<'a> {
         match &self.tasks[task.0 as usize] {
             None => false,
             Some(task) => task.parked.is_some(),
+        }
+    }
+
+    /// How many constants and additions stand in a row before this task, at most `most`. A parked task
+    /// stands behind its await.
+    pub fn local_ahead(&self, task: TaskNo, most: u32) -> u32
+        requires { IsThere self.now.tasks task.0 }
+        ensures { HeldAnd (λ task'. result ≡ local_ahead self.now.code task' most) (slice_get self.now.tasks task.0) }
+    {
+        match &self.tasks[task.0 as usize] {
+            None => 0,
+            Some(task) => self.code.local_from(task.body, task.place, most),
         }
     }
 
