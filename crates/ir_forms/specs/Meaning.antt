@@ -1,14 +1,14 @@
 -- The sequential meaning of a function of constants, additions, launches, awaits and a return.
 use Rattle.std.specs.Prelude.{ℕ, zero, suc, ◌+◌, ◌-◌, ◌%◌, ◌^◌, Bool, true, false, cond, List, [], ◌∷◌, map, Option, Some, None}
 use Rattle.ir_forms.specs.declared.ops.Op.{Op}
-use Rattle.ir_forms.specs.declared.ops.OpKind.{OpKind}
-use Rattle.ir_forms.specs.declared.ops.OpKind.TheVariants.{ArithAddi, ArithConstant, AsyncAwait, AsyncExecute}
+use Rattle.op_table.specs.declared.kind.OpKind.{OpKind}
+use Rattle.op_table.specs.declared.kind.OpKind.TheVariants.{ArithAddi, ArithConstant, AsyncAwait, AsyncExecute}
 use Rattle.ir_forms.specs.declared.ops.Attr.{Attr}
 use Rattle.ir_forms.specs.declared.ops.Attr.TheVariants.{Literal}
 use Rattle.ir_forms.specs.declared.ops.Func.{Func}
 use Rattle.ir_forms.specs.declared.runs.Out.{Out}
 use Rattle.ir_forms.specs.declared.types.OutTy.TheVariants.{Int}
-use Rattle.ir_forms.specs.declared.types.Width.TheVariants.{W64}
+use Rattle.int_ops.specs.declared.Width.TheVariants.{W64}
 use Rattle.ir_forms.specs.Ops.{kind_of, operands_of, results_of, attr_of, regions_of, ops_of, first_ops, number_at}
 
 -- the numbers of a function's values so far; a value that was given none reads as 0

@@ -2,7 +2,7 @@
 use Rattle.std.specs.Prelude.{ℕ, zero, suc, List, [], ◌∷◌}
 use Rattle.ir_forms.specs.declared.ops.Op.{Op, out-Op}
 use Rattle.ir_forms.specs.declared.ops.Region.{Region, out-Region}
-use Rattle.ir_forms.specs.declared.ops.OpKind.{OpKind}
+use Rattle.op_table.specs.declared.kind.OpKind.{OpKind}
 use Rattle.ir_forms.specs.declared.ops.Attr.{Attr}
 use Rattle.ir_forms.specs.declared.ops.ValueNo.{ValueNo}
 use Rattle.ir_forms.specs.declared.types.Ty.{Ty}

@@ -5,6 +5,8 @@ mod ops;
 mod runs;
 mod types;
 
-pub use ops::{Attr, Func, Module, Op, OpKind, Region, ValueNo};
+pub use int_ops::{Pred, Width};
+pub use op_table::{Level, OpKind};
+pub use ops::{Attr, Func, Module, Op, Region, ValueNo};
 pub use runs::{Buffer, FuncNo, ObjNo, Out, TaskNo};
-pub use types::{CellTy, Dim, MemTy, NumTy, OutTy, Ty, ValTy, Width};
+pub use types::{CellTy, Dim, MemTy, NumTy, OutTy, Ty, ValTy};

@@ -1,5 +1,7 @@
 use crate::types::Ty;
+use int_ops::Pred;
 use lists::Items;
+use op_table::OpKind;
 
 /// A value of a function, numbered from 0 in the order in which the text defines them.
 #[derive(Clone, Copy, PartialEq, Eq, Debug)]
@@ -10,24 +12,14 @@ impl ValueNo {
     pub const UNKNOWN: ValueNo = ValueNo(u32::MAX);
 }
 
-/// A kind of operation: `ArithAddi` is `arith.addi`.
-#[derive(Clone, Copy, PartialEq, Eq, Debug)]
-pub enum OpKind {
-    ArithAddi,
-    ArithConstant,
-    AsyncAwait,
-    AsyncExecute,
-    AsyncYield,
-    FuncReturn,
-}
-
-/// What an operation carries beside its operands: a literal as it is written, a truth, a text, or
-/// the name of the function that it calls.
+/// What an operation carries beside its operands: a literal as it is written, a truth, a predicate,
+/// a text, or the name of the function that it calls.
 #[derive(PartialEq, Debug, Drop)]
 pub enum Attr {
     None,
     Literal { negative: bool, magnitude: u64 },
     Truth(bool),
+    Pred(Pred),
     Text(Items<u8>),
     Callee(Items<u8>),
 }

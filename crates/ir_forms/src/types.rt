@@ -1,14 +1,5 @@
+use int_ops::Width;
 use lists::Items;
-
-/// The bits of an integer type.
-#[derive(Clone, Copy, PartialEq, Eq, Debug)]
-pub enum Width {
-    W1,
-    W8,
-    W16,
-    W32,
-    W64,
-}
 
 /// A type of the grammar, and `Untyped` for a region's parameter whose form gives it none.
 #[derive(PartialEq, Debug, Drop)]

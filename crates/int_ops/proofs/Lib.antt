@@ -1,0 +1,4 @@
+pub mod Readings
+pub mod Results
+pub mod LawProofs
+pub mod Equations

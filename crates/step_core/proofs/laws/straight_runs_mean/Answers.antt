@@ -1,0 +1,5 @@
+use Rattle.step_core.proofs.Runs.{runs_mean}
+use Rattle.step_core.proofs.laws.straight_runs_mean.Goals as goal
+
+pub returns : goal.returns
+returns c = runs_mean
