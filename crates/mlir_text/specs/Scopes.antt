@@ -4,14 +4,14 @@ use Rattle.std.specs.Str.{bytes_eq}
 use Rattle.std.specs.Map.{lookup}
 use Rattle.ir_forms.specs.declared.ops.Op.{Op, roll-Op}
 use Rattle.ir_forms.specs.declared.ops.Region.{Region, roll-Region}
-use Rattle.ir_forms.specs.declared.ops.OpKind.TheVariants.{ArithAddi, ArithConstant, AsyncAwait, AsyncExecute, AsyncYield, FuncReturn}
+use Rattle.op_table.specs.declared.kind.OpKind.TheVariants.{ArithAddi, ArithConstant, AsyncAwait, AsyncExecute, AsyncYield, FuncReturn}
 use Rattle.ir_forms.specs.declared.ops.Attr.TheVariants as attr
 use Rattle.ir_forms.specs.declared.ops.ValueNo.{ValueNo}
 use Rattle.ir_forms.specs.declared.ops.Func.{Func}
 use Rattle.ir_forms.specs.declared.ops.Module.{Module}
 use Rattle.ir_forms.specs.declared.types.Ty.{Ty}
 use Rattle.ir_forms.specs.declared.types.Ty.TheVariants as ty
-use Rattle.ir_forms.specs.declared.types.Width.TheVariants.{W64}
+use Rattle.int_ops.specs.declared.Width.TheVariants.{W64}
 use Rattle.mlir_text.specs.declared.names.Bound.{Bound}
 use Rattle.mlir_text.specs.declared.names.Bound.TheVariants.{Number, Token}
 use Rattle.mlir_text.specs.declared.block.Block.{Block}
