@@ -1,7 +1,6 @@
 -- A number whose first digits pass a limit passes it.
-use Rattle.std.proofs.Common.{◌≡◌, refl, sym, ◌∙◌, ap, ℕ, suc, ◌+◌, ◌-◌, ◌*◌, ◌<◌, ◌≤◌, List, [], ◌∷◌, Option, None, length, get_or, drop, arith, drop-cons, add-one, Bool, true, false}
+use Rattle.std.proofs.Common.{◌≡◌, sym, ◌∙◌, ap, ℕ, suc, ◌+◌, ◌-◌, ◌*◌, ◌<◌, ◌≤◌, List, [], ◌∷◌, None, length, get_or, drop, arith, drop-cons}
 use Rattle.std.proofs.lemmas.Bool.Decides.{nat_tests}
-use Rattle.std.specs.Prelude.{nat_le}
 use Rattle.mlir_text.specs.Scopes.{decimal_from, decimal, below}
 
 pub grows : (n : ℕ) (ds : List ℕ) → n ≤ decimal_from n ds

@@ -7,7 +7,7 @@ use Rattle.mlir_text.specs.declared.block.Block.{Block}
 use Rattle.mlir_text.specs.declared.body.Launch.{Launch}
 use Rattle.mlir_text.specs.declared.body.Body.{Body}
 use Rattle.mlir_text.specs.Reading.{◌>>=◌}
-use Rattle.mlir_text.specs.Scopes.{Names, computed, local_op, name_of, is_free, defined, awaited, returned, launched, token_in, number_in, bound_to, with_op, await_op, return_op, no, i64}
+use Rattle.mlir_text.specs.Scopes.{Names, computed, local_op, name_of, is_free, defined, awaited, returned, launched, token_in, number_in, bound_to, with_op, await_op, return_op, i64}
 use Rattle.mlir_text.specs.Statements.{add, add_open, compute, open_region, close_region, wait, give, agrees, current, next_op, next_value, with_outer, with_launch}
 use Rattle.mlir_text.proofs.WordLaws.{then-is}
 use Rattle.mlir_text.proofs.Spelling.{at_some}

@@ -1,12 +1,12 @@
 -- A header that is read is spelled so.
-use Rattle.std.proofs.Common.{◌≡◌, refl, sym, ◌∙◌, ap, subst, ℕ, Bool, true, false, cond, ◌==◌, List, [], ◌∷◌, Option, None, Some, IfSome}
+use Rattle.std.proofs.Common.{◌≡◌, refl, ◌∙◌, ap, ℕ, Bool, true, false, cond, ◌==◌, List, [], ◌∷◌, None, Some, IfSome}
 use Rattle.std.proofs.lemmas.Bool.Decides.{Decides-eqb}
 use Rattle.mlir_lex.specs.declared.kinds.TokenKind.TheVariants.{SymbolName}
 use Rattle.mlir_text.specs.declared.fixed.Fixed.TheVariants as words
 use Rattle.mlir_text.specs.declared.statements.Header.{Header}
 use Rattle.mlir_text.specs.Words.{Word, word, fixed, symbol}
-use Rattle.mlir_text.specs.Reading.{after, taken, branch, name_of, result_of, header, ◌>>=◌}
-use Rattle.mlir_text.specs.Grammar.{spell_header, spell_result}
+use Rattle.mlir_text.specs.Reading.{after, taken, name_of, result_of, header, ◌>>=◌}
+use Rattle.mlir_text.specs.Grammar.{spell_header}
 use Rattle.mlir_text.proofs.WordLaws.{then-is, after-is, taken-is}
 use Rattle.mlir_text.proofs.Spelling.{branch-is, at_some}
 

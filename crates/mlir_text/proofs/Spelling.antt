@@ -1,16 +1,15 @@
 -- A statement that is spelled is read back, and what is read is spelled so.
-use Rattle.std.proofs.Common.{◌≡◌, refl, sym, ◌∙◌, ap, ℕ, Bool, true, false, List, [], ◌∷◌, Option, None, Some, IfSome, subst}
-use Rattle.mlir_lex.specs.declared.kinds.TokenKind.TheVariants.{ValueName, SymbolName, Digits}
+use Rattle.std.proofs.Common.{◌≡◌, refl, ℕ, Bool, true, false, List, ◌∷◌, Option, None, Some, IfSome, subst}
+use Rattle.mlir_lex.specs.declared.kinds.TokenKind.TheVariants.{ValueName, Digits}
 use Rattle.mlir_text.specs.declared.fixed.Fixed.TheVariants as words
 use Rattle.mlir_text.specs.declared.statements.Local.TheVariants.{Constant, Addition}
 use Rattle.mlir_text.specs.declared.statements.Statement.{Statement}
 use Rattle.mlir_text.specs.declared.statements.Statement.TheVariants.{Compute, Open, Close, Wait, Give}
-use Rattle.mlir_text.specs.declared.statements.Header.{Header}
-use Rattle.mlir_text.specs.Words.{Word, word, fixed, value, number, symbol}
-use Rattle.mlir_text.specs.Reading.{after, taken, branch, number_type, digits_from, constant, addition, opening, defined_by, definition, waiting, closing, given, giving, statement, name_of, result_of, header, ◌>>=◌}
-use Rattle.mlir_text.specs.Grammar.{spell_type, spell_sign, spell_return, spell_header, spell_result}
+use Rattle.mlir_text.specs.Words.{Word, fixed, value, number}
+use Rattle.mlir_text.specs.Reading.{after, taken, branch, number_type, digits_from, constant, addition, opening, defined_by, definition, waiting, closing, given, giving, statement, header, ◌>>=◌}
+use Rattle.mlir_text.specs.Grammar.{spell_type, spell_sign, spell_header}
 use Rattle.mlir_text.specs.Statements.{spell_statement}
-use Rattle.mlir_text.proofs.WordLaws.{some-is, then-is, after-is, taken-is}
+use Rattle.mlir_text.proofs.WordLaws.{then-is, after-is, taken-is}
 
 pub statement-spell : (s : Statement) (rest : List Word) → statement (spell_statement s rest) ≡ Some (s, rest)
 statement-spell (Compute (Constant name true digits)) rest = refl

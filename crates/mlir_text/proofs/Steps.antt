@@ -1,5 +1,5 @@
 -- One more statement leads on from where the ones before have led.
-use Rattle.std.proofs.Common.{◌≡◌, refl, sym, ◌∙◌, ap, ℕ, List, [], ◌∷◌, Option, None, Some, Err, subst}
+use Rattle.std.proofs.Common.{◌≡◌, refl, sym, ◌∙◌, ap, List, [], ◌∷◌, Option, None, Some, Err, subst}
 use Rattle.mlir_text.specs.declared.statements.Statement.{Statement}
 use Rattle.mlir_text.specs.declared.body.Body.{Body}
 use Rattle.mlir_text.specs.declared.fault.TextFault.{TextFault}

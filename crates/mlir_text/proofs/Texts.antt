@@ -1,5 +1,5 @@
 -- What is read of a text's words is its tree's, and each tree is read.
-use Rattle.std.proofs.Common.{◌≡◌, refl, sym, ◌∙◌, ap, ap₂, subst, ℕ, Bool, true, false, cond, List, [], ◌∷◌, Option, None, Some, Err}
+use Rattle.std.proofs.Common.{◌≡◌, refl, sym, ◌∙◌, ap, ap₂, subst, ℕ, Bool, true, false, cond, List, [], ◌∷◌, None, Some, Err}
 use Rattle.std.specs.Prelude.{is_some}
 use Rattle.ir_forms.specs.declared.ops.Module.{Module}
 use Rattle.mlir_text.specs.declared.statements.Header.{Header}

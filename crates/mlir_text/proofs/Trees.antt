@@ -1,5 +1,5 @@
 -- A tree as the list of its statements.
-use Rattle.std.proofs.Common.{◌≡◌, refl, sym, ◌∙◌, ap, subst, ℕ, Bool, true, false, cond, List, [], ◌∷◌, Option, None, Some}
+use Rattle.std.proofs.Common.{◌≡◌, refl, ◌∙◌, ap, ℕ, Bool, true, false, cond, List, [], ◌∷◌, Option, None, Some}
 use Rattle.std.specs.Prelude.{is_some}
 use Rattle.mlir_text.specs.declared.statements.Local.{Local}
 use Rattle.mlir_text.specs.declared.statements.Statement.{Statement}
@@ -7,10 +7,9 @@ use Rattle.mlir_text.specs.declared.statements.Statement.TheVariants.{Compute, O
 use Rattle.mlir_text.specs.declared.block.Block.{Block}
 use Rattle.mlir_text.specs.declared.body.Launch.{Launch}
 use Rattle.mlir_text.specs.declared.body.Body.{Body}
-use Rattle.mlir_text.specs.Words.{Word}
 use Rattle.mlir_text.specs.Reading.{◌>>=◌}
-use Rattle.mlir_text.specs.Scopes.{Names, computed, is_free, inside, launched, awaited, returned, empty_at, module_with, number_in, bound_to, with_op, return_op, i64}
-use Rattle.mlir_text.specs.Grammar.{Item, Simple, Execution, Awaiting, Text, Empty, Function, spell_local, spell_locals, spell_open, spell_close, spell_item, spell_items, spell_return, locals_in, execution_in, item_in, items_in, module_of}
+use Rattle.mlir_text.specs.Scopes.{computed, is_free, inside, launched, awaited, returned, empty_at, module_with, number_in, bound_to, with_op, return_op, i64}
+use Rattle.mlir_text.specs.Grammar.{Item, Simple, Execution, Awaiting, Function, spell_local, spell_locals, spell_open, spell_item, spell_items, spell_return, locals_in, execution_in, item_in, items_in, module_of}
 use Rattle.mlir_text.specs.Statements.{add, add_all, spell_all, agrees, start, finish}
 use Rattle.ir_forms.specs.declared.ops.ValueNo.{ValueNo}
 use Rattle.mlir_text.proofs.WordLaws.{none_or_some}

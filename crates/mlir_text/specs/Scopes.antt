@@ -1,5 +1,5 @@
 -- What the operations of a body are, and which names are visible where.
-use Rattle.std.specs.Prelude.{ℕ, ◌+◌, ◌-◌, ◌*◌, ◌^◌, Bool, true, false, ◌&&◌, if◌then◌else◌, nat_le, List, [], ◌∷◌, ◌++◌, Option, Some, None, is_none, is_some}
+use Rattle.std.specs.Prelude.{ℕ, ◌+◌, ◌-◌, ◌*◌, ◌^◌, Bool, true, false, ◌&&◌, if◌then◌else◌, nat_le, List, [], ◌∷◌, ◌++◌, Option, Some, None, is_none}
 use Rattle.std.specs.Str.{bytes_eq}
 use Rattle.std.specs.Map.{lookup}
 use Rattle.ir_forms.specs.declared.ops.Op.{Op, roll-Op}
@@ -7,7 +7,6 @@ use Rattle.ir_forms.specs.declared.ops.Region.{Region, roll-Region}
 use Rattle.op_table.specs.declared.kind.OpKind.TheVariants.{ArithAddi, ArithConstant, AsyncAwait, AsyncExecute, AsyncYield, FuncReturn}
 use Rattle.ir_forms.specs.declared.ops.Attr.TheVariants as attr
 use Rattle.ir_forms.specs.declared.ops.ValueNo.{ValueNo}
-use Rattle.ir_forms.specs.declared.ops.Func.{Func}
 use Rattle.ir_forms.specs.declared.ops.Module.{Module}
 use Rattle.ir_forms.specs.declared.types.Ty.{Ty}
 use Rattle.ir_forms.specs.declared.types.Ty.TheVariants as ty

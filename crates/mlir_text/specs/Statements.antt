@@ -1,8 +1,7 @@
 -- What each statement makes of the body that is being read.
-use Rattle.std.specs.Prelude.{◌≡◌, ℕ, ◌+◌, ◌^◌, ◌≤◌, Bool, true, false, List, [], ◌∷◌, Option, Some, None, if◌then◌else◌, Result, Ok, Err}
+use Rattle.std.specs.Prelude.{◌≡◌, ℕ, Bool, true, false, List, [], ◌∷◌, Option, Some, None, if◌then◌else◌, Result, Ok, Err}
 use Rattle.ir_forms.specs.declared.ops.Module.{Module}
 use Rattle.mlir_text.specs.declared.statements.Local.{Local}
-use Rattle.mlir_text.specs.declared.statements.Local.TheVariants.{Constant, Addition}
 use Rattle.mlir_text.specs.declared.statements.Statement.{Statement}
 use Rattle.mlir_text.specs.declared.statements.Statement.TheVariants.{Compute, Open, Close, Wait, Give}
 use Rattle.mlir_text.specs.declared.block.Block.{Block}

@@ -1,5 +1,5 @@
 -- The words of a text: its tokens, each with its bytes.
-use Rattle.std.specs.Prelude.{ℕ, ◌≤◌, List, [], ◌∷◌, length, map, slice_range, Bool, true, false, ◌==◌}
+use Rattle.std.specs.Prelude.{ℕ, ◌≤◌, List, [], ◌∷◌, length, slice_range, Bool, true, false, ◌==◌}
 use Rattle.std.specs.List.{AllByRecursion}
 use lib.Chars.{codes}
 use Rattle.mlir_lex.specs.declared.kinds.TokenKind.{TokenKind}

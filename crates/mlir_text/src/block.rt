@@ -91,6 +91,7 @@ impl<'a> Block<'a> {
             }
         }
     }
+
     /// Adds a constant or an addition, where these names are visible around this body.
     pub fn compute(
         &mut self,

@@ -20,6 +20,12 @@ fn i64s(alloc: Global, count: usize) -> Result<Items<Ty>, AllocError> {
     Ok(types)
 }
 
+fn token(alloc: Global) -> Result<Items<Ty>, AllocError> {
+    let mut types = Items::new(alloc);
+    types.push(Ty::Token)?;
+    Ok(types)
+}
+
 /// An operation on numbers.
 fn op(
     alloc: Global,
@@ -94,16 +100,36 @@ fn reads_a_launch(rt: HostRuntime) -> Result<(), Fail> {
     let mut inner = Items::new(alloc);
     inner.push(constant(alloc, 3, 1, 7)?)?;
     inner.push(op(alloc, OpKind::AsyncYield, 4, &[], &[], Attr::None)?)?;
-    let mut launch = op(alloc, OpKind::AsyncExecute, 2, &[], &[0], Attr::None)?;
-    launch.groups.push(0)?;
-    launch.groups.push(0)?;
-    launch.types.set(0, Ty::Token);
-    launch.regions.push(Region {
+    let mut groups = Items::new(alloc);
+    groups.push(0)?;
+    groups.push(0)?;
+    let mut regions = Items::new(alloc);
+    regions.push(Region {
         params: Items::new(alloc),
         ops: inner,
     })?;
-    let mut wait = op(alloc, OpKind::AsyncAwait, 5, &[0], &[], Attr::None)?;
-    wait.written.set(0, Ty::Token);
+    let launch = Op {
+        kind: OpKind::AsyncExecute,
+        at: 2,
+        operands: Items::new(alloc),
+        groups,
+        written: Items::new(alloc),
+        results: numbers(alloc, &[0])?,
+        types: token(alloc)?,
+        attr: Attr::None,
+        regions,
+    };
+    let wait = Op {
+        kind: OpKind::AsyncAwait,
+        at: 5,
+        operands: numbers(alloc, &[0])?,
+        groups: Items::new(alloc),
+        written: token(alloc)?,
+        results: Items::new(alloc),
+        types: Items::new(alloc),
+        attr: Attr::None,
+        regions: Items::new(alloc),
+    };
     let mut ops = Items::new(alloc);
     ops.push(launch)?;
     ops.push(wait)?;

@@ -1,4 +1,4 @@
-use Rattle.std.proofs.Common.{◌≡◌, ◌≤◌, ◌+◌, ◌^◌, length}
+use Rattle.std.proofs.Common.{◌≤◌, ◌+◌, ◌^◌, length}
 use Rattle.mlir_text.specs.Statements.{SameReads, start, next_value, next_op}
 use Rattle.mlir_text.proofs.reader.read_body.Given as goal
 

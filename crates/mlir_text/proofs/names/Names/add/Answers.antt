@@ -1,4 +1,4 @@
-use Rattle.std.proofs.Common.{◌≡◌, ◌∙◌, ap, sym, None}
+use Rattle.std.proofs.Common.{◌≡◌, ap, None}
 use Rattle.mlir_text.specs.Names.{named}
 use Rattle.mlir_text.specs.Scopes.{bound_to}
 use Rattle.mlir_text.proofs.Maps.{insert_named}
