@@ -1,5 +1,5 @@
 -- How much steps, bursts and entries make.
-use Rattle.std.specs.Prelude.{◌≡◌, ℕ, ◌+◌, ◌*◌, ◌≤◌, ◌<◌, ◌^◌, ◌-◌, length}
+use Rattle.std.specs.Prelude.{ℕ, ◌+◌, ◌*◌, ◌≤◌, ◌<◌, ◌^◌, ◌-◌, length}
 use Rattle.step_core.specs.State.{State}
 
 -- there are numbers for one more entry

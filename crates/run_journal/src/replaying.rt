@@ -79,20 +79,13 @@ fn take_entry(
 
 /// Takes a burst of so many local steps, and below the longest the shared step that follows. `false` where
 /// this one can't be taken.
-fn take_burst(
-    alloc: Global,
-    core: &mut Core,
-    task: TaskNo,
-    local: u32,
-) -> Result<bool, AllocError>
+fn take_burst(alloc: Global, core: &mut Core, task: TaskNo, local: u32) -> Result<bool, AllocError>
     requires burst { (burst longest_burst core.old task.0).0 ≡ local }
     requires within { HasRoom core.old }
-    ensures taken {
-        IfOk result (λ taken.
-            MatchBool taken
-                (after_burst task.0 (burst longest_burst core.old task.0) ≡ Some core.new)
-                (after_burst task.0 (burst longest_burst core.old task.0) ≡ None))
-    }
+    ensures taken { IfOk result (λ taken.
+        MatchBool taken
+        (after_burst task.0 (burst longest_burst core.old task.0) ≡ Some core.new)
+        (after_burst task.0 (burst longest_burst core.old task.0) ≡ None)) }
 {
     take_local(alloc, core, task, local)?;
     if local == LONGEST_BURST {
@@ -105,12 +98,7 @@ fn take_burst(
 }
 
 /// Takes the local steps of a burst.
-fn take_local(
-    alloc: Global,
-    core: &mut Core,
-    task: TaskNo,
-    local: u32,
-) -> Result<(), AllocError>
+fn take_local(alloc: Global, core: &mut Core, task: TaskNo, local: u32) -> Result<(), AllocError>
     requires burst { (burst longest_burst core.old task.0).0 ≡ local }
     requires within { HasRoom core.old }
     ensures { OnOk result (core.new ≡ (burst longest_burst core.old task.0).1) }
