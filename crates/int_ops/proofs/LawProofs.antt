@@ -1,20 +1,20 @@
 -- Proofs of the laws of specs/Laws.antt.
-use Rattle.std.proofs.Common.{◌≡◌, ℕ, zero, suc, ◌+◌, ◌-◌, ◌*◌, ◌/◌, ◌%◌, ◌^◌, ◌<◌, ◌≤◌, Bool, true, false, ℤ, pos, negsuc, neg_ℤ, ◌+ℤ◌, ◌*ℤ◌, ◌≤ℤ◌, ◌<ℤ◌, refl, sym, ◌∙◌, ap, subst, arith, min, max, Some, None, ◌⊎◌, inl, inr}
-use Rattle.std.specs.Prelude.{nat_lt, nat_le, Option, ◌==◌, ◌||◌, ◌&&◌, not, cond, int_lt, int_le, int_div, int_rem, unsigned_abs, is_some, IsNone}
+use Rattle.std.proofs.Common.{◌≡◌, ℕ, suc, ◌-◌, ◌*◌, ◌/◌, ◌%◌, ◌^◌, ◌<◌, Bool, true, false, ℤ, pos, negsuc, neg_ℤ, ◌+ℤ◌, ◌*ℤ◌, ◌≤ℤ◌, ◌<ℤ◌, refl, sym, ◌∙◌, ap, arith, Some, None, ◌⊎◌, inl, inr}
+use Rattle.std.specs.Prelude.{nat_lt, nat_le, ◌==◌, ◌&&◌, not, cond, int_lt, int_le, int_div, int_rem, unsigned_abs, is_some, IsNone}
 use Rattle.std.specs.Int.{int_rem_euclid, int_min, int_max}
 use Rattle.std.specs.Int.Signed.{mag, mag_rem}
 use Rattle.std.proofs.Math.Nat.{mod-eq_of_lt, mod-lt, mod-one, div-add-mod'}
 use Rattle.std.proofs.lemmas.Nat.{pow_pos, mod_low}
 use Rattle.std.proofs.lemmas.Int.{ints, int_rem_euclid_is, quot-rem}
-use Rattle.std.proofs.lemmas.Bool.{cases_lt, cases_cond, cond-true, cond-false, eqb-true, eqb-false, leb-true, eq-eqb, ne_eqb, le-leb, false≢true, or_parts, and_from}
+use Rattle.std.proofs.lemmas.Bool.{cases_lt, cases_cond, cond-false, eqb-false, leb-true, eq-eqb, ne_eqb, le-leb, false≢true, or_parts, and_from}
 use Rattle.std.proofs.lemmas.Bool.Decides.{nat_tests, Decides-or, Decides-and, Decides-eqb, Decides-int_eq}
 use Rattle.std.proofs.Math.Logic.{⊎_elim}
 use Rattle.int_ops.specs.declared.BinOp.{BinOp}
-use Rattle.int_ops.specs.declared.BinOp.TheVariants.{Add, Sub, Mul, DivS, DivU, RemS, RemU, And, Or, Xor, Shl, ShrS, ShrU, MaxS, MinS, MaxU, MinU}
+use Rattle.int_ops.specs.declared.BinOp.TheVariants.{DivS, DivU, RemS, RemU, Shl, ShrS, ShrU}
 use Rattle.int_ops.specs.Arithmetic as spec
 use Rattle.int_ops.specs.Arithmetic.{IsWidth, signed_reading, residue, arith_result, compares, exact_result, lacks_result}
 use Rattle.int_ops.specs.Laws as law
-use Rattle.int_ops.proofs.Readings.{bounds, half, residue-below, residue-pos, residue-reading, reading_low, reading_high, reading-residue, mag-reading, reading-extended, extended-mod}
+use Rattle.int_ops.proofs.Readings.{bounds, half, residue-below, residue-pos, residue-reading, reading_high, reading-residue, mag-reading}
 use Rattle.int_ops.proofs.Results.{max_kept, min_kept, division_test, mag-signed_quotient}
 
 -- ---- the residue
@@ -138,17 +138,18 @@ pub extremes_are_operands : law.ExtremesAreOperands
 unfolding arith_result
 extremes_are_operands w a b p q =
     let x = signed_reading w a in
-    let y = signed_reading w b in
-    (one-of w a b (int_max x y) p q (cases_cond (int_lt y x) x y (int_max x y) refl)
-    , one-of w a b (int_min x y) p q (turned (cases_cond (int_lt y x) y x (int_min x y) refl))
-    , ⊎_elim
-        (λ less. inr (max_kept w a b p q ∙ ap Some (omega arith)))
-        (λ more. inl (max_kept w a b p q ∙ ap Some (omega arith)))
-        (cases_lt a b)
-    , ⊎_elim
-        (λ less. inl (min_kept w a b p q ∙ ap Some (omega arith)))
-        (λ more. inr (min_kept w a b p q ∙ ap Some (omega arith)))
-        (cases_lt a b))
+    let y = signed_reading w b in (
+      one-of w a b (int_max x y) p q (cases_cond (int_lt y x) x y (int_max x y) refl),
+      one-of w a b (int_min x y) p q (turned (cases_cond (int_lt y x) y x (int_min x y) refl)),
+      ⊎_elim
+          (λ less. inr (max_kept w a b p q ∙ ap Some (omega arith)))
+          (λ more. inl (max_kept w a b p q ∙ ap Some (omega arith)))
+          (cases_lt a b),
+      ⊎_elim
+          (λ less. inl (min_kept w a b p q ∙ ap Some (omega arith)))
+          (λ more. inr (min_kept w a b p q ∙ ap Some (omega arith)))
+          (cases_lt a b),
+    )
 
 -- ---- comparisons
 

@@ -1,3 +1,4 @@
 pub mod Readings
 pub mod Results
 pub mod LawProofs
+pub mod Equations

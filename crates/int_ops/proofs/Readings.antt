@@ -1,10 +1,10 @@
 -- Signed readings, residues and what the code's words of 64 bits make of them.
-use Rattle.std.proofs.Common.{◌≡◌, ℕ, suc, ◌+◌, ◌-◌, ◌*◌, ◌/◌, ◌%◌, ◌^◌, ◌<◌, ◌≤◌, Bool, true, false, ℤ, pos, negsuc, ◌-ℤ◌, refl, sym, ◌∙◌, ap, subst, arith, bit_or}
+use Rattle.std.proofs.Common.{◌≡◌, ℕ, suc, ◌+◌, ◌-◌, ◌*◌, ◌/◌, ◌%◌, ◌^◌, ◌<◌, ◌≤◌, ℤ, pos, negsuc, ◌-ℤ◌, refl, sym, ◌∙◌, ap, subst, arith, bit_or}
 use Rattle.std.specs.Prelude.{nat_lt, FitsSigned}
 use Rattle.std.specs.Int.Signed.{mag}
 use Rattle.std.specs.Int.{w64, cast_signed, cast_unsigned}
-use Rattle.std.proofs.Math.Nat.{two-pow-succ, mod-eq_of_lt, div-eq_of_lt, div-mul-le_self, mod-lt, div-add-mod', mul-le-mul_right}
-use Rattle.std.proofs.Math.Pow.{pow_mono, pow-add, high_ones, mod-mod-pow, low}
+use Rattle.std.proofs.Math.Nat.{two-pow-succ, mod-eq_of_lt, div-eq_of_lt, mod-lt, div-add-mod'}
+use Rattle.std.proofs.Math.Pow.{pow_mono, pow-add, high_ones, low}
 use Rattle.std.proofs.lemmas.Nat.{pow_pos, or_shifted, or_comm, le-div, div_below}
 use Rattle.std.proofs.lemmas.Int.{ints, of_z-to_z}
 use Rattle.std.proofs.lemmas.Bool.{cases_lt, cond-true, cond-false, lt-ltb, le-ltb}

@@ -1,19 +1,19 @@
 -- The results of the operations, in the words of the code.
-use Rattle.std.proofs.Common.{◌≡◌, ℕ, zero, suc, zero-le, ◌+◌, ◌-◌, ◌*◌, ◌/◌, ◌%◌, ◌^◌, ◌<◌, ◌≤◌, Bool, true, false, ℤ, pos, negsuc, neg_ℤ, ◌-ℤ◌, refl, sym, ◌∙◌, ap, subst, arith, bit_or, bit_and, min, max, Some, None, IfSome}
-use Rattle.std.specs.Prelude.{nat_lt, nat_le, FitsSigned, SomeIff, Option, bit_xor, ◌&&◌, ◌||◌, ◌==◌, cond, int_div, int_rem}
-use Rattle.std.specs.Int.{w64, cast_signed, cast_unsigned, CanDivide}
+use Rattle.std.proofs.Common.{◌≡◌, ℕ, zero, suc, zero-le, ◌+◌, ◌-◌, ◌*◌, ◌/◌, ◌%◌, ◌^◌, ◌<◌, ◌≤◌, ℤ, pos, negsuc, neg_ℤ, ◌-ℤ◌, refl, sym, ◌∙◌, ap, subst, arith, bit_or, bit_and, min, max, Some, None, IfSome}
+use Rattle.std.specs.Prelude.{nat_le, SomeIff, Option, bit_xor, ◌&&◌, ◌||◌, ◌==◌, cond, int_div}
+use Rattle.std.specs.Int.{w64, cast_unsigned, CanDivide}
 use Rattle.std.specs.Int.Bits.{and_lt}
 use Rattle.std.specs.Int.Signed.{mag}
-use Rattle.std.proofs.Math.Nat.{mod-eq_of_lt, mod-le, div-le_self, min-le_left, mul-add-mod_self_left, div-lt_self}
+use Rattle.std.proofs.Math.Nat.{mod-le, div-le_self, mul-add-mod_self_left, div-lt_self}
 use Rattle.std.proofs.Math.Pow.{pow_mono, mod-mod-pow}
 use Rattle.std.proofs.lemmas.Nat.{pow_pos, or_lt, xor_lt, shr_le}
 use Rattle.std.proofs.lemmas.Int.{ints}
-use Rattle.std.proofs.lemmas.Bool.{cases_lt, cond-true, cond-false, lt-ltb, le-ltb, lt-leb, le-leb, eq-eqb, ne_eqb, cond_both, cases_eq}
+use Rattle.std.proofs.lemmas.Bool.{cases_lt, cond-true, cond-false, lt-leb, eq-eqb, ne_eqb, cond_both, cases_eq}
 use Rattle.std.proofs.lemmas.Bool.Decides.{Decides-int_eq, Decides-eqb, Decides-like, same_from_decides}
 use Rattle.int_ops.specs.Arithmetic as spec
 use Rattle.std.proofs.Math.Logic.{⊎_elim}
 use Rattle.int_ops.specs.declared.BinOp.{BinOp}
-use Rattle.int_ops.specs.declared.BinOp.TheVariants.{Add, Sub, Mul, DivS, DivU, RemS, RemU, And, Or, Xor, Shl, ShrS, ShrU, MaxS, MinS, MaxU, MinU}
+use Rattle.int_ops.specs.declared.BinOp.TheVariants.{Add, Sub, Mul, DivS, DivU, RemU, And, Or, Xor, Shl, ShrU, MaxS, MinS, MaxU, MinU}
 use Rattle.int_ops.specs.Arithmetic.{IsWidth, signed_reading, residue, arith_result, exact_result, lacks_result}
 use Rattle.int_ops.proofs.Readings.{bounds, half, complement-mod, residue-below, residue-pos, reading_low, reading_high, mag-reading}
 
@@ -34,9 +34,9 @@ difference : (w a b : ℕ) → w ≤ 64 → a < 2 ^ 64 → b < 2 ^ 64 → residu
 unfolding residue
 difference w a b ok p q = ⊎_elim
     (λ less. let is : pos a -ℤ pos b ≡ negsuc (b - a - 1) = omega (arith, ints) in
-        ap (residue w) is ∙ sym (complement-mod w (b - a - 1) ok (omega arith)) ∙ ap (λ n. n % 2 ^ w) (omega arith))
+    ap (residue w) is ∙ sym (complement-mod w (b - a - 1) ok (omega arith)) ∙ ap (λ n. n % 2 ^ w) (omega arith))
     (λ more. let is : pos a -ℤ pos b ≡ pos (a - b) = omega (arith, ints) in
-        ap (residue w) is ∙ sym (narrowed w (a - b) ok) ∙ ap (λ n. n % 2 ^ w) (sym (mul-add-mod_self_left (2 ^ 64) 1 (a - b)) ∙ ap (λ n. n % 2 ^ 64) (omega arith)) ∙ narrowed w (a + (2 ^ 64 - b)) ok)
+    ap (residue w) is ∙ sym (narrowed w (a - b) ok) ∙ ap (λ n. n % 2 ^ w) (sym (mul-add-mod_self_left (2 ^ 64) 1 (a - b)) ∙ ap (λ n. n % 2 ^ 64) (omega arith)) ∙ narrowed w (a + (2 ^ 64 - b)) ok)
     (cases_lt a b)
 
 pub difference_kept : (w a b : ℕ) → IsWidth w → a < 2 ^ 64 → b < 2 ^ 64 → arith_result w Sub a b ≡ Some ((a + (2 ^ 64 - b)) % 2 ^ 64 % 2 ^ w)
@@ -160,11 +160,13 @@ minus_one_test w b ok h = same_from_decides (spec.is_minus_one w b) (b == 2 ^ w 
 -- the divisor that a division of the code's signed numbers asks for
 pub nonzero_reading : (w b : ℕ) → IsWidth w → b < 2 ^ w → ¬ (b ≡ 0) → (signed_reading w b ≡ signed_reading w b) × (0 < cast_unsigned w64 (signed_reading w b))
 nonzero_reading w b ok h some =
-    let wide : 2 ^ w ≤ 2 ^ 64 = pow_mono {i = w} {j = 64} (bounds w ok).1 in
-    (refl, ⊎_elim
-    (λ under. subst (λ z. 0 < cast_unsigned w64 z) (sym (reading_low w b under)) (let l : 0 < b = omega arith in l))
-    (λ over. subst (λ z. 0 < cast_unsigned w64 z) (sym (reading_high w b over h)) (let l : 0 < 2 ^ 64 - suc (2 ^ w - 1 - b) = omega arith in l))
-    (cases_lt b (2 ^ (w - 1))))
+    let wide : 2 ^ w ≤ 2 ^ 64 = pow_mono {i = w} {j = 64} (bounds w ok).1 in (
+      refl,
+      ⊎_elim
+          (λ under. subst (λ z. 0 < cast_unsigned w64 z) (sym (reading_low w b under)) (let l : 0 < b = omega arith in l))
+          (λ over. subst (λ z. 0 < cast_unsigned w64 z) (sym (reading_high w b over h)) (let l : 0 < 2 ^ 64 - suc (2 ^ w - 1 - b) = omega arith in l))
+          (cases_lt b (2 ^ (w - 1))),
+    )
 
 -- the quotient lies in the range of its operands, unless it is that of the least number by -1
 mag-neg : (n : ℕ) → mag (neg_ℤ (pos n)) ≤ n
@@ -179,9 +181,9 @@ mag-quotient (negsuc a) (pos b) half h some apart =
 mag-quotient (pos a) (negsuc b) half h some apart = omega (arith, div-le_self a (suc b), mag-neg (a / suc b))
 mag-quotient (negsuc a) (negsuc b) half h some apart = ⊎_elim
     (λ one. let e : (negsuc b ≡ negsuc 0) = ap negsuc one in
-        let less = div-le_self (suc a) (suc b) in
-        let other : ¬ (a ≡ half - 1) = λ f. apart (ap negsuc f, e) in
-        omega arith)
+    let less = div-le_self (suc a) (suc b) in
+    let other : ¬ (a ≡ half - 1) = λ f. apart (ap negsuc f, e) in
+    omega arith)
     (λ more. let less : suc a / suc b < suc a = div-lt_self (omega arith) (omega arith) in omega arith)
     (cases_eq b 0)
 

@@ -1,7 +1,7 @@
 -- Arithmetic on numbers of w bits, defined over the unbounded whole numbers: a number lies from 0 to
 -- 2 ^ w - 1 and is read as it stands or as a signed number, the result is the exact one, and what is
 -- kept of it is its residue modulo 2 ^ w.
-use Rattle.std.specs.Prelude.{ℕ, ◌+◌, ◌-◌, ◌*◌, ◌/◌, ◌%◌, ◌^◌, min, max, Bool, true, false, not, ◌&&◌, ◌||◌, ◌==◌, nat_lt, nat_le, if◌then◌else◌, ◌≡◌, ◌⊎◌, ℤ, pos, negsuc, ◌+ℤ◌, ◌-ℤ◌, ◌*ℤ◌, neg_ℤ, int_lt, int_le, int_div, int_rem, bit_and, bit_or, bit_xor, Option, Some, None}
+use Rattle.std.specs.Prelude.{ℕ, ◌-◌, ◌*◌, ◌/◌, ◌%◌, ◌^◌, min, max, Bool, false, not, ◌&&◌, ◌||◌, ◌==◌, nat_lt, nat_le, if◌then◌else◌, ◌≡◌, ◌⊎◌, ℤ, pos, negsuc, ◌+ℤ◌, ◌-ℤ◌, ◌*ℤ◌, neg_ℤ, int_lt, int_le, int_div, int_rem, bit_and, bit_or, bit_xor, Option, Some, None}
 use Rattle.std.specs.Int.{int_min, int_max, int_div_euclid}
 use Rattle.std.specs.Ordering.{int_eq}
 use Rattle.int_ops.specs.declared.Width.{Width}
@@ -17,6 +17,7 @@ use Rattle.int_ops.specs.declared.Pred.TheVariants.{Eq, Ne, Slt, Sle, Sgt, Sge, 
 abbrev pub IsWidth : ℕ → Type 0
 IsWidth w = (w ≡ 1) ⊎ (w ≡ 8) ⊎ (w ≡ 16) ⊎ (w ≡ 32) ⊎ (w ≡ 64)
 
+-- how many bits a number of the width has
 abbrev pub bits_of : Width → ℕ
 bits_of W1 = 1
 bits_of W8 = 8
@@ -41,6 +42,7 @@ sign_extended w a = residue 64 (signed_reading w a)
 
 -- ---- operations
 
+-- the signed reading is the least one, or -1
 unfoldable pub is_least : ℕ → ℕ → Bool
 is_least w a = int_eq (signed_reading w a) (neg_ℤ (pos (2 ^ (w - 1))))
 
@@ -86,6 +88,7 @@ arith_result w op a b = if lacks_result w op a b then None else Some (residue w 
 
 -- ---- comparisons
 
+-- whether the predicate holds of two numbers of w bits
 unfoldable pub compares : ℕ → Pred → ℕ → ℕ → Bool
 compares w Eq a b = a == b
 compares w Ne a b = not (a == b)

@@ -1,8 +1,8 @@
 -- Laws of the arithmetic, over its definitions alone.
-use Rattle.std.specs.Prelude.{ℕ, ◌+◌, ◌-◌, ◌%◌, ◌^◌, ◌<◌, ◌≤◌, not, ◌≡◌, ◌⊎◌, ◌↔◌, ℤ, pos, ◌+ℤ◌, ◌*ℤ◌, neg_ℤ, ◌≤ℤ◌, ◌<ℤ◌, Some, IsNone, IfSome}
+use Rattle.std.specs.Prelude.{ℕ, ◌-◌, ◌%◌, ◌^◌, ◌<◌, ◌≤◌, not, ◌≡◌, ◌⊎◌, ◌↔◌, ℤ, pos, ◌+ℤ◌, ◌*ℤ◌, neg_ℤ, ◌≤ℤ◌, ◌<ℤ◌, Some, IsNone, IfSome}
 use Rattle.int_ops.specs.declared.Width.{Width}
 use Rattle.int_ops.specs.declared.BinOp.{BinOp}
-use Rattle.int_ops.specs.declared.BinOp.TheVariants.{Add, Sub, Mul, DivS, DivU, RemS, RemU, And, Or, Xor, Shl, ShrS, ShrU, MaxS, MinS, MaxU, MinU}
+use Rattle.int_ops.specs.declared.BinOp.TheVariants.{DivS, DivU, RemS, RemU, Shl, ShrS, ShrU, MaxS, MinS, MaxU, MinU}
 use Rattle.int_ops.specs.declared.Pred.TheVariants.{Eq, Ne, Slt, Sle, Sgt, Sge, Ult, Ule, Ugt, Uge}
 use Rattle.int_ops.specs.Arithmetic.{IsWidth, bits_of, signed_reading, residue, sign_extended, arith_result, compares}
 

@@ -1,5 +1,5 @@
 //! Arithmetic at a width that is known when the program is compiled.
-ghost use Rattle.std.specs.Prelude.{◌≡◌, ◌+◌, ◌-◌, ◌%◌, ◌^◌, ◌<◌, IfSome, pos, ◌≤ℤ◌, ◌<ℤ◌, neg_ℤ, not, IsTrue};
+ghost use Rattle.std.specs.Prelude.{◌≡◌, ◌-◌, ◌%◌, ◌^◌, ◌<◌, not, IsTrue, IfSome};
 ghost use Rattle.std.specs.Int.{w64, CanDivide};
 ghost use Rattle.int_ops.specs.Arithmetic.{IsWidth, lacks_result, signed_reading, residue, sign_extended, arith_result, compares};
 
@@ -92,6 +92,7 @@ impl<const W: u32> Int<W> {
         }
     }
 
+    /// `DivS`.
     #[tactic(auto, unfolding(crate::specs::Arithmetic::arith_result))]
     fn signed_quotient(a: u64, b: u64) -> Option<u64>
         requires width { IsWidth W }

@@ -114,3 +114,6 @@ pub fn cmp_at(width: Width, pred: Pred, a: u64, b: u64) -> bool
 {
     cmp_arms!(width, pred, a, b; W1 = 1, W8 = 8, W16 = 16, W32 = 32, W64 = 64)
 }
+
+#[cfg(test)]
+mod tests;

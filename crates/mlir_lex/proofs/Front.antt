@@ -1,17 +1,17 @@
 -- `front` gives the longest token, and gives none only where none begins.
-use Rattle.std.proofs.Common.{◌≡◌, ◌⊎◌, inl, inr, ⊎_elim, ℕ, zero, suc, ◌+◌, ◌-◌, ◌<◌, ◌≤◌, min, Bool, true, false, not, ◌&&◌, cond, eqb, List, [], ◌∷◌, ◌++◌, length, drop, take, get_or, Option, Some, None, refl, ap, sym, ◌∙◌, subst, arith, length-take, length-take-le, take-append-drop}
-use Rattle.std.proofs.lemmas.Bool.{false≢true, and_parts, and_right, cases_order}
+use Rattle.std.proofs.Common.{◌≡◌, ◌⊎◌, inl, inr, ⊎_elim, ℕ, ◌<◌, ◌≤◌, min, true, false, List, [], ◌∷◌, ◌++◌, length, drop, take, Option, Some, None, ap, sym, ◌∙◌, subst, arith, length-take-le, take-append-drop}
+use Rattle.std.proofs.lemmas.Bool.{false≢true, and_parts}
 use Rattle.std.proofs.lemmas.List.{take_min}
 use Rattle.std.proofs.lemmas.Option.{same_Some}
-use Rattle.std.specs.Str.{bytes_eq}
 use Rattle.mlir_lex.specs.declared.kinds.TokenKind.{TokenKind}
 use Rattle.mlir_lex.specs.declared.kinds.TokenKind.TheVariants.{Name, ValueName, BlockName, SymbolName, HashName, SymbolText, Digits, Hex, Text, Memref, BangName, Arrow, Byte, End}
 use Rattle.mlir_lex.specs.declared.bytes.ByteClass.TheVariants.{Mark}
 use Rattle.mlir_lex.specs.Bytes.{is_in}
 use Rattle.mlir_lex.specs.Grammar.{is_token, IsLongest}
+use Rattle.mlir_lex.specs.Laws.{is_apart}
 use Rattle.mlir_lex.specs.Scan.{front}
-use Rattle.mlir_lex.proofs.Longest.{Ahead, ahead}
-use Rattle.mlir_lex.proofs.Sound.{IsCut, front_cuts}
+use Rattle.mlir_lex.proofs.Longest.{ahead}
+use Rattle.mlir_lex.proofs.Sound.{front_cuts}
 
 -- a token has a byte
 pub empty_token : (kind : TokenKind) → is_token kind [] ≡ true → ⊥
@@ -36,7 +36,7 @@ pub ahead_at : (kind : TokenKind) (n : ℕ) (text : List ℕ) → n ≤ length t
 ahead_at kind n text within e =
     let a = ahead kind (take n text) (drop n text) e in
     let len = length-take-le n text within in
-    (a.0, ap front (sym (take-append-drop n text)) ∙ a.1, ⊎_elim (λ less. inl (omega (arith, less, len))) (λ same. inr (sym len ∙ same.0, same.1)) a.2)
+    (a.0, ap front (sym (take-append-drop n text)) ∙ a.1, ⊎_elim (λ less. inl (omega (arith, less.0, len))) (λ same. inr (sym len ∙ same.0, same.1)) a.2)
 
 pub front_longest : (b : ℕ) (bs : List ℕ) (t : TokenKind × ℕ) → front (b ∷ bs) ≡ Some t → IsLongest t.0 t.1 (b ∷ bs)
 front_longest b bs t e =
@@ -65,3 +65,12 @@ front_of_longest kind n b bs is =
     let a = ahead_at kind n (b ∷ bs) is.within is.token in
     let cut = front_cuts b bs a.0 a.1 in
     a.1 ∙ ⊎_elim (λ less. absurd (is.longest a.0.0 a.0.1 less cut.0 cut.1)) (λ same. ap Some (λ i. (sym same.1 i, sym same.0 i))) a.2
+
+-- a token with what can't lengthen it behind it
+pub read_back : (kind : TokenKind) (s rest : List ℕ) → is_token kind s ≡ true → is_apart kind s rest ≡ true → IsLongest kind (length s) (s ++ rest)
+read_back kind [] rest e apart = absurd (empty_token kind e)
+read_back kind (b ∷ s) rest e apart =
+    let a = ahead kind (b ∷ s) rest e in
+    let longest = front_longest b (s ++ rest) a.0 a.1 in
+    ⊎_elim (λ longer. absurd (false≢true (sym longer.1 ∙ apart)))
+    (λ same. subst (λ n. IsLongest kind n (b ∷ (s ++ rest))) (sym same.0) (subst (λ k. IsLongest k a.0.1 (b ∷ (s ++ rest))) (sym same.1) longest)) a.2

@@ -1,23 +1,22 @@
 -- No token at the front of a text is longer than the one that `front` gives.
-use Rattle.std.proofs.Common.{◌≡◌, ◌⊎◌, inl, inr, ⊎_elim, ℕ, zero, suc, ◌+◌, ◌-◌, ◌<◌, ◌≤◌, Bool, true, false, not, ◌&&◌, cond, eqb, List, [], ◌∷◌, ◌++◌, length, drop, take, get_or, Option, Some, None, refl, ap, sym, ◌∙◌, subst, arith}
-use Rattle.std.proofs.lemmas.Bool.{false≢true, and_parts, and_from, eqb-true, cases_Bool, cases_order}
+use Rattle.std.proofs.Common.{◌≡◌, ◌⊎◌, inl, inr, ⊎_elim, ℕ, suc, ◌+◌, ◌<◌, ◌≤◌, Bool, true, false, not, ◌&&◌, cond, eqb, List, [], ◌∷◌, ◌++◌, length, drop, take, get_or, Option, Some, None, refl, ap, sym, ◌∙◌, subst, arith}
+use Rattle.std.proofs.lemmas.Bool.{false≢true, and_parts, and_from, and_left, and_right, eqb-true, eq-eqb, cases_lt, cases_order}
 use Rattle.std.proofs.lemmas.Bool.Decides.{nat_tests, Decides-eqb}
 use Rattle.std.proofs.lemmas.Slice.Eq.{starts_is, bytes_eq-Decides}
-use Rattle.std.proofs.Math.Seq.{take-append_seam}
+use Rattle.std.proofs.Math.Seq.{take-append_seam, drop-append_seam}
 use Rattle.std.specs.List.{prefix_len, starts_with}
-use Rattle.std.specs.Prelude.{nat_eq}
+use Rattle.std.specs.Prelude.{nat_eq, codes}
 use Rattle.std.specs.Str.{bytes_eq}
-use lib.Chars.{codes}
 use Rattle.mlir_lex.specs.declared.bytes.ByteClass.{ByteClass}
-use Rattle.mlir_lex.specs.declared.bytes.ByteClass.TheVariants.{Blank, Line, NameStart, NamePart, SuffixPart, Digit, HexDigit, Mark}
+use Rattle.mlir_lex.specs.declared.bytes.ByteClass.TheVariants.{NameStart, NamePart, SuffixPart, Digit, HexDigit, Mark}
 use Rattle.mlir_lex.specs.declared.strings.Escape.TheVariants as escape
 use Rattle.mlir_lex.specs.declared.kinds.TokenKind.{TokenKind}
 use Rattle.mlir_lex.specs.declared.kinds.TokenKind.TheVariants.{Name, ValueName, BlockName, SymbolName, HashName, SymbolText, Digits, Hex, Text, Memref, BangName, Arrow, Byte, End}
-use Rattle.mlir_lex.specs.declared.scan.Lead.{Lead}
 use Rattle.mlir_lex.specs.declared.scan.Lead.TheVariants as lead
 use Rattle.mlir_lex.specs.Bytes.{is_in}
 use Rattle.mlir_lex.specs.Grammar.{is_empty, all_in, some_in, is_name, is_signed_name, is_hex, ends_quoted, is_quoted, escapes_well, is_string, is_symbol_text, is_bang_name, open_after, ends_bracket, is_memref, is_mark, is_token}
-use Rattle.mlir_lex.specs.Scan.{quote_end, quoted_len, string_len, bracket_end, memref_len, word, number, signed_name, symbol, bang_name, dash, lead_of, front_from, front}
+use Rattle.mlir_lex.specs.Laws.{is_apart}
+use Rattle.mlir_lex.specs.Scan.{quote_end, string_len, bracket_end, memref_len, lead_of, front}
 
 -- ---- lengths
 
@@ -75,14 +74,33 @@ mark_leads b e other = grind (arith, nat_tests)
 
 -- `front` gives this token, or a longer one
 abbrev pub Ahead : TokenKind → List ℕ → List ℕ → Type 0
-Ahead kind s rest = (t : TokenKind × ℕ) × (front (s ++ rest) ≡ Some t) × ((length s < t.1) ⊎ ((length s ≡ t.1) × (kind ≡ t.0)))
+Ahead kind s rest =
+    (t : TokenKind × ℕ) × (front (s ++ rest) ≡ Some t) × (((length s < t.1) × (is_apart kind s rest ≡ false)) ⊎ ((length s ≡ t.1) × (kind ≡ t.0)))
 
 abbrev at_most : (m n : ℕ) → m ≤ n → (m < n) ⊎ (m ≡ n)
 at_most m n h = elim (cases_order m n) [ inl same ↦ inr same | inr other ↦ elim other [ inl less ↦ inl less | inr more ↦ absurd (omega arith) ] ]
 
 -- a longest token of the same kind
-by_length : (kind : TokenKind) (s rest : List ℕ) (n : ℕ) → front (s ++ rest) ≡ Some (kind, n) → length s ≤ n → Ahead kind s rest
-by_length kind s rest n e h = ((kind, n), e, ⊎_elim (λ less. inl less) (λ same. inr (same, refl)) (at_most (length s) n h))
+by_length : (kind : TokenKind) (s rest : List ℕ) (n : ℕ) → front (s ++ rest) ≡ Some (kind, n) → length s ≤ n
+    → (length s < n → is_apart kind s rest ≡ false) → Ahead kind s rest
+by_length kind s rest n e h longer = ((kind, n), e, ⊎_elim (λ less. inl (less, longer less)) (λ same. inr (same, refl)) (at_most (length s) n h))
+
+-- what goes on past the bytes of a class begins with one of the class
+more_in : (c : ByteClass) (s rest : List ℕ) → all_in c s ≡ true → length s < prefix_len (is_in c) (s ++ rest) → is_in c (get_or rest 0 0) ≡ true
+more_in c [] [] all more = absurd (omega arith)
+more_in c [] (b ∷ rest) all more = first (is_in c b) refl more
+  where
+    first : (t : Bool) → is_in c b ≡ t → 0 < cond t (1 + prefix_len (is_in c) rest) 0 → is_in c b ≡ true
+    first true is more = is
+    first false is more = absurd (omega arith)
+more_in c (b ∷ s) rest all more =
+    let parts = and_parts (is_in c b) (all_in c s) all in
+    let one : prefix_len (is_in c) (b ∷ (s ++ rest)) ≡ 1 + prefix_len (is_in c) (s ++ rest) = rw parts.0 refl in
+    more_in c s rest parts.1 (omega (arith, more, one))
+
+not_false : (t : Bool) → t ≡ true → not t ≡ false
+not_false true e = refl
+not_false false e = absurd (false≢true e)
 
 some-parts : (c : ByteClass) (s : List ℕ) → some_in c s ≡ true → (b : ℕ) × (t : List ℕ) × (s ≡ b ∷ t) × (is_in c b ≡ true) × (all_in c t ≡ true)
 some-parts c [] e = absurd (false≢true e)
@@ -118,6 +136,13 @@ memref_name : (rest : List ℕ) → prefix_len (is_in NamePart) (drop 1 (codes "
 unfolding is_in
 memref_name rest = refl
 
+-- `memref` and `<`, where a name of six letters and the rest are `memref<` and more
+memref_apart : (s rest more : List ℕ) → length s ≡ 6 → s ++ rest ≡ codes "memref<" ++ more → (bytes_eq s (codes "memref") && eqb (get_or rest 0 0) 60) ≡ true
+memref_apart s rest more len whole =
+    let front_is : s ≡ codes "memref" = sym (take-append_seam s rest) ∙ ap (λ n. take n (s ++ rest)) len ∙ ap (take 6) whole in
+    let rest_is : get_or rest 0 0 ≡ 60 = ap (λ l. get_or l 0 0) (sym (drop-append_seam s rest) ∙ ap (λ n. drop n (s ++ rest)) len ∙ ap (drop 6) whole) in
+    and_from (bytes_eq s (codes "memref")) (eqb (get_or rest 0 0) 60) ((bytes_eq-Decides s (codes "memref")).1 front_is) (eq-eqb (get_or rest 0 0) 60 rest_is)
+
 ahead-name : (s rest : List ℕ) → is_name s ≡ true → Ahead Name s rest
 unfolding front
 ahead-name [] rest e = absurd (false≢true e)
@@ -125,16 +150,31 @@ ahead-name (b ∷ s) rest e = go (memref_len text) refl
   where
     text : List ℕ
     text = b ∷ (s ++ rest)
+
     parts : (is_in NameStart b ≡ true) × (all_in NamePart s ≡ true)
     parts = and_parts (is_in NameStart b) (all_in NamePart s) e
+
     name_len : length s ≤ prefix_len (is_in NamePart) (s ++ rest)
     name_len = all-append NamePart s rest parts.1
+
     go : (o : Option ℕ) → memref_len text ≡ o → Ahead Name (b ∷ s) rest
     go None is = by_length Name (b ∷ s) rest (1 + prefix_len (is_in NamePart) (s ++ rest)) (rw (word_leads b parts.0, is) refl) (omega (arith, name_len))
+        (λ more. and_left (not (is_in NamePart (get_or rest 0 0))) _ (not_false _ (more_in NamePart s rest parts.1 (omega (arith, more)))))
     go (Some n) is =
         let m = memref_front text n is in
-        let six : prefix_len (is_in NamePart) (s ++ rest) ≡ 5 = ap (λ l. prefix_len (is_in NamePart) (drop 1 l)) m.1 ∙ memref_name (drop 7 text) in
-        ((Memref, n), rw (word_leads b parts.0, is) refl, inl (omega (arith, name_len, six, m.0)))
+        let six : prefix_len (is_in NamePart) (s ++ rest) ≡ 5 = ap (λ l. prefix_len (is_in NamePart) (drop 1 l)) m.1 ∙ memref_name (drop 7 text) in (
+          (Memref, n),
+          rw (word_leads b parts.0, is) refl,
+          inl (
+            omega (arith, name_len, six, m.0),
+            ⊎_elim
+                (λ short. and_left (not (is_in NamePart (get_or rest 0 0))) _ (not_false _ (more_in NamePart s rest parts.1 (omega (arith, short, six)))))
+                (λ long.
+                let len : length (b ∷ s) ≡ 6 = omega (arith, name_len, six, long) in
+                and_right (not (is_in NamePart (get_or rest 0 0))) _ (not_false _ (memref_apart (b ∷ s) rest (drop 7 text) len m.1)))
+                (cases_lt (length s) 5),
+          ),
+        )
 
 pub start_is_part : (b : ℕ) → is_in NameStart b ≡ true → is_in NamePart b ≡ true
 unfolding is_in
@@ -153,20 +193,26 @@ leads-109 : lead_of 109 ≡ lead.Word
 unfolding lead_of is_in
 leads-109 = refl
 
-ahead-signed_name : (kind : TokenKind) (sign : ℕ) (s rest : List ℕ) → lead_of sign ≡ lead.Signed kind → is_signed_name sign s ≡ true → Ahead kind s rest
+ahead-signed_name : (kind : TokenKind) (sign : ℕ) (s rest : List ℕ) → lead_of sign ≡ lead.Signed kind
+    → is_apart kind s rest ≡ not (is_in SuffixPart (get_or rest 0 0)) → is_signed_name sign s ≡ true → Ahead kind s rest
 unfolding front
-ahead-signed_name kind sign [] rest leads e = absurd (false≢true e)
-ahead-signed_name kind sign (b ∷ s) rest leads e = go s (some-parts SuffixPart s parts.1)
+ahead-signed_name kind sign [] rest leads apart e = absurd (false≢true e)
+ahead-signed_name kind sign (b ∷ s) rest leads apart e = go s (some-parts SuffixPart s parts.1) apart
   where
     parts : (eqb b sign ≡ true) × (some_in SuffixPart s ≡ true)
     parts = and_parts (eqb b sign) (some_in SuffixPart s) e
+
     leads_b : lead_of b ≡ lead.Signed kind
     leads_b = ap lead_of (eqb-true b sign parts.0) ∙ leads
-    go : (x : List ℕ) → (c : ℕ) × (t : List ℕ) × (x ≡ c ∷ t) × (is_in SuffixPart c ≡ true) × (all_in SuffixPart t ≡ true) → Ahead kind (b ∷ x) rest
-    go x (c, t, is, first, all) =
+
+    go : (x : List ℕ) → (c : ℕ) × (t : List ℕ) × (x ≡ c ∷ t) × (is_in SuffixPart c ≡ true) × (all_in SuffixPart t ≡ true)
+        → is_apart kind (b ∷ x) rest ≡ not (is_in SuffixPart (get_or rest 0 0)) → Ahead kind (b ∷ x) rest
+    go x (c, t, is, first, all) apart =
         let len = all-append SuffixPart (c ∷ t) rest (and_from (is_in SuffixPart c) (all_in SuffixPart t) first all) in
-        subst (λ x. Ahead kind (b ∷ x) rest) (sym is)
-        (by_length kind (b ∷ c ∷ t) rest (1 + prefix_len (is_in SuffixPart) (c ∷ (t ++ rest))) (rw (leads_b, first) refl) (omega (arith, len)))
+        subst (λ x. is_apart kind (b ∷ x) rest ≡ not (is_in SuffixPart (get_or rest 0 0)) → Ahead kind (b ∷ x) rest) (sym is)
+        (λ apart. by_length kind (b ∷ c ∷ t) rest (1 + prefix_len (is_in SuffixPart) (c ∷ (t ++ rest))) (rw (leads_b, first) refl) (omega (arith, len))
+        (λ more. apart ∙ not_false _ (more_in SuffixPart (c ∷ t) rest (and_from (is_in SuffixPart c) (all_in SuffixPart t) first all) (omega (arith, more)))))
+        apart
 
 leads-37 : lead_of 37 ≡ lead.Signed ValueName
 unfolding lead_of is_in
@@ -203,13 +249,16 @@ ahead-symbol_name (b ∷ s) rest e = go s (some-parts SuffixPart s parts.1)
   where
     parts : (eqb b 64 ≡ true) × (some_in SuffixPart s ≡ true)
     parts = and_parts (eqb b 64) (some_in SuffixPart s) e
+
     leads_b : lead_of b ≡ lead.Symbol
     leads_b = ap lead_of (eqb-true b 64 parts.0) ∙ leads-64
+
     go : (x : List ℕ) → (c : ℕ) × (t : List ℕ) × (x ≡ c ∷ t) × (is_in SuffixPart c ≡ true) × (all_in SuffixPart t ≡ true) → Ahead SymbolName (b ∷ x) rest
     go x (c, t, is, first, all) =
         let len = all-append SuffixPart (c ∷ t) rest (and_from (is_in SuffixPart c) (all_in SuffixPart t) first all) in
         subst (λ x. Ahead SymbolName (b ∷ x) rest) (sym is)
-        (by_length SymbolName (b ∷ c ∷ t) rest (1 + prefix_len (is_in SuffixPart) (c ∷ (t ++ rest))) (rw (leads_b, first) refl) (omega (arith, len)))
+        (by_length SymbolName (b ∷ c ∷ t) rest (1 + prefix_len (is_in SuffixPart) (c ∷ (t ++ rest))) (rw (leads_b, first) refl) (omega (arith, len))
+        (λ more. not_false _ (more_in SuffixPart (c ∷ t) rest (and_from (is_in SuffixPart c) (all_in SuffixPart t) first all) (omega (arith, more)))))
 
 -- a string is read whole
 string-append : (s rest : List ℕ) → is_string s ≡ true → string_len (s ++ rest) ≡ Some (length s)
@@ -238,14 +287,14 @@ ahead-symbol_text (b ∷ s) rest e =
     let leads_b : lead_of b ≡ lead.Symbol = ap lead_of (eqb-true b 64 parts.0) ∙ leads-64 in
     let begins = string_begins s parts.1 in
     let no_name : is_in SuffixPart (get_or (s ++ rest) 0 0) ≡ false = ap (λ x. is_in SuffixPart (get_or (x ++ rest) 0 0)) begins.1 ∙ quote_no_suffix in
-    by_length SymbolText (b ∷ s) rest (length s + 1) (rw (leads_b, no_name, string-append s rest parts.1) refl) (omega arith)
+    by_length SymbolText (b ∷ s) rest (length s + 1) (rw (leads_b, no_name, string-append s rest parts.1) refl) (omega arith) (λ more. absurd (omega (arith, more)))
 
 ahead-text : (s rest : List ℕ) → is_string s ≡ true → Ahead Text s rest
 unfolding front
 ahead-text s rest e =
     let begins = string_begins s e in
     let leads : lead_of (get_or (s ++ rest) 0 0) ≡ lead.Quote = ap (λ x. lead_of (get_or (x ++ rest) 0 0)) begins.1 ∙ leads-34 in
-    by_length Text s rest (length s) (rw (leads, string-append s rest e) refl) (omega arith)
+    by_length Text s rest (length s) (rw (leads, string-append s rest e) refl) (omega arith) (λ more. absurd (omega (arith, more)))
 
 ahead-bang_name : (s rest : List ℕ) → is_bang_name s ≡ true → Ahead BangName s rest
 unfolding front
@@ -257,6 +306,15 @@ ahead-bang_name (b ∷ c ∷ s) rest e =
     let name = and_parts (is_in NameStart c) (all_in NamePart s) parts.1 in
     let len = all-append NamePart (c ∷ s) rest (and_from (is_in NamePart c) (all_in NamePart s) (start_is_part c name.0) name.1) in
     by_length BangName (b ∷ c ∷ s) rest (1 + prefix_len (is_in NamePart) (c ∷ (s ++ rest))) (rw (leads_b, name.0) refl) (omega (arith, len))
+    (λ more. not_false _ (more_in NamePart (c ∷ s) rest (and_from (is_in NamePart c) (all_in NamePart s) (start_is_part c name.0) name.1) (omega (arith, more))))
+
+-- `0` and `x`, where one digit and the rest are `0x` and more
+zero_apart : (b : ℕ) (s rest more : List ℕ) → length s ≡ 0 → b ∷ (s ++ rest) ≡ codes "0x" ++ more → (bytes_eq (b ∷ s) (codes "0") && eqb (get_or rest 0 0) 120) ≡ true
+zero_apart b [] rest more len whole =
+    let first : b ≡ 48 = ap (λ l. get_or l 0 0) whole in
+    let second : get_or rest 0 0 ≡ 120 = ap (λ l. get_or l 1 0) whole in
+    and_from (bytes_eq (b ∷ []) (codes "0")) (eqb (get_or rest 0 0) 120) ((bytes_eq-Decides (b ∷ []) (codes "0")).1 (ap (λ b. b ∷ []) first)) (eq-eqb (get_or rest 0 0) 120 second)
+zero_apart b (c ∷ s) rest more len whole = absurd (omega arith)
 
 ahead-digits : (s rest : List ℕ) → some_in Digit s ≡ true → Ahead Digits s rest
 unfolding front
@@ -265,16 +323,23 @@ ahead-digits (b ∷ s) rest e = go (starts_with nat_eq text (codes "0x") && is_i
   where
     text : List ℕ
     text = b ∷ (s ++ rest)
+
     parts : (is_in Digit b ≡ true) × (all_in Digit s ≡ true)
     parts = and_parts (is_in Digit b) (all_in Digit s) e
+
     len : length s ≤ prefix_len (is_in Digit) (s ++ rest)
     len = all-append Digit s rest parts.1
+
     go : (t : Bool) → (starts_with nat_eq text (codes "0x") && is_in HexDigit (get_or text 2 0)) ≡ t → Ahead Digits (b ∷ s) rest
     go false is = by_length Digits (b ∷ s) rest (1 + prefix_len (is_in Digit) (s ++ rest)) (rw (digit_leads b parts.0, is) refl) (omega (arith, len))
+        (λ more. and_left (not (is_in Digit (get_or rest 0 0))) _ (not_false _ (more_in Digit s rest parts.1 (omega (arith, more)))))
     go true is =
         let starts = starts_tells text (codes "0x") (and_parts (starts_with nat_eq text (codes "0x")) (is_in HexDigit (get_or text 2 0)) is).0 in
-        let one : prefix_len (is_in Digit) (s ++ rest) ≡ 0 = ap (λ l. prefix_len (is_in Digit) (drop 1 l)) starts ∙ hex_digits (drop 2 text) in
-        ((Hex, 2 + prefix_len (is_in HexDigit) (drop 2 text)), rw (digit_leads b parts.0, is) refl, inl (omega (arith, len, one)))
+        let one : prefix_len (is_in Digit) (s ++ rest) ≡ 0 = ap (λ l. prefix_len (is_in Digit) (drop 1 l)) starts ∙ hex_digits (drop 2 text) in (
+          (Hex, 2 + prefix_len (is_in HexDigit) (drop 2 text)),
+          rw (digit_leads b parts.0, is) refl,
+          inl (omega (arith, len, one), and_right (not (is_in Digit (get_or rest 0 0))) _ (not_false _ (zero_apart b s rest (drop 2 text) (omega (arith, len, one)) starts))),
+        )
 
 ahead-hex : (s rest : List ℕ) → is_hex s ≡ true → Ahead Hex s rest
 unfolding front
@@ -282,12 +347,14 @@ ahead-hex s rest e = go (drop 2 s) (starts_tells s (codes "0x") parts.0) (some-p
   where
     parts : (starts_with nat_eq s (codes "0x") ≡ true) × (some_in HexDigit (drop 2 s) ≡ true)
     parts = and_parts (starts_with nat_eq s (codes "0x")) (some_in HexDigit (drop 2 s)) e
+
     go : (x : List ℕ) → s ≡ codes "0x" ++ x → (d : ℕ) × (t : List ℕ) × (x ≡ d ∷ t) × (is_in HexDigit d ≡ true) × (all_in HexDigit t ≡ true) → Ahead Hex s rest
     go x starts (d, t, is, first, all) =
         let len = all-append HexDigit (d ∷ t) rest (and_from (is_in HexDigit d) (all_in HexDigit t) first all) in
         let whole : s ≡ 48 ∷ 120 ∷ d ∷ t = starts ∙ ap (λ x. 48 ∷ 120 ∷ x) is in
         subst (λ s. Ahead Hex s rest) (sym whole)
-        (by_length Hex (48 ∷ 120 ∷ d ∷ t) rest (2 + prefix_len (is_in HexDigit) (d ∷ (t ++ rest))) (rw (leads-48, first) refl) (omega (arith, len)))
+        (by_length Hex (48 ∷ 120 ∷ d ∷ t) rest (2 + prefix_len (is_in HexDigit) (d ∷ (t ++ rest))) (rw (leads-48, first) refl) (omega (arith, len))
+        (λ more. not_false _ (more_in HexDigit (d ∷ t) rest (and_from (is_in HexDigit d) (all_in HexDigit t) first all) (omega (arith, more)))))
 
 ahead-memref : (s rest : List ℕ) → is_memref s ≡ true → Ahead Memref s rest
 unfolding front
@@ -296,12 +363,12 @@ ahead-memref s rest e =
     let starts = starts_tells s (codes "memref<") parts.0 in
     let end = bracket-append (drop 7 s) rest 0 7 parts.1 in
     subst (λ s. Ahead Memref s rest) (sym starts)
-    (by_length Memref (codes "memref<" ++ drop 7 s) rest (7 + length (drop 7 s)) (rw (leads-109, end) refl) (omega arith))
+    (by_length Memref (codes "memref<" ++ drop 7 s) rest (7 + length (drop 7 s)) (rw (leads-109, end) refl) (omega arith) (λ more. absurd (omega (arith, more))))
 
 ahead-arrow : (s rest : List ℕ) → bytes_eq s (codes "->") ≡ true → Ahead Arrow s rest
 unfolding front
 ahead-arrow s rest e =
-    subst (λ s. Ahead Arrow s rest) (sym ((bytes_eq-Decides s (codes "->")).0 e)) (by_length Arrow (codes "->") rest 2 (rw leads-45 refl) (omega arith))
+    subst (λ s. Ahead Arrow s rest) (sym ((bytes_eq-Decides s (codes "->")).0 e)) (by_length Arrow (codes "->") rest 2 (rw leads-45 refl) (omega arith) (λ more. absurd (omega (arith, more))))
 
 ahead-mark : (mark : ℕ) (s rest : List ℕ) → is_mark mark s ≡ true → Ahead (Byte mark) s rest
 unfolding front
@@ -309,20 +376,22 @@ ahead-mark mark s rest e = subst (λ s. Ahead (Byte mark) s rest) (sym ((bytes_e
   where
     parts : (is_in Mark mark ≡ true) × (bytes_eq s (mark ∷ []) ≡ true)
     parts = and_parts (is_in Mark mark) (bytes_eq s (mark ∷ [])) e
+
     then_dash : (t : Bool) → eqb (get_or rest 0 0) 62 ≡ t → Ahead (Byte 45) (45 ∷ []) rest
-    then_dash true is = ((Arrow, 2), rw (leads-45, is) refl, inl (omega arith))
-    then_dash false is = by_length (Byte 45) (45 ∷ []) rest 1 (rw (leads-45, is) refl) (omega arith)
+    then_dash true is = ((Arrow, 2), rw (leads-45, is) refl, inl (omega arith, not_false _ is))
+    then_dash false is = by_length (Byte 45) (45 ∷ []) rest 1 (rw (leads-45, is) refl) (omega arith) (λ more. absurd (omega (arith, more)))
+
     go : (t : Bool) → eqb mark 45 ≡ t → Ahead (Byte mark) (mark ∷ []) rest
     go true is = subst (λ m. Ahead (Byte m) (m ∷ []) rest) (sym (eqb-true mark 45 is)) (then_dash (eqb (get_or rest 0 0) 62) refl)
-    go false is = by_length (Byte mark) (mark ∷ []) rest 1 (rw (mark_leads mark parts.0 is) refl) (omega arith)
+    go false is = by_length (Byte mark) (mark ∷ []) rest 1 (rw (mark_leads mark parts.0 is) refl) (omega arith) (λ more. absurd (omega (arith, more)))
 
 -- `front` gives each token that begins the text, or a longer one
 pub ahead : (kind : TokenKind) (s rest : List ℕ) → is_token kind s ≡ true → Ahead kind s rest
 ahead Name s rest e = ahead-name s rest e
-ahead ValueName s rest e = ahead-signed_name ValueName 37 s rest leads-37 e
-ahead BlockName s rest e = ahead-signed_name BlockName 94 s rest leads-94 e
+ahead ValueName s rest e = ahead-signed_name ValueName 37 s rest leads-37 refl e
+ahead BlockName s rest e = ahead-signed_name BlockName 94 s rest leads-94 refl e
 ahead SymbolName s rest e = ahead-symbol_name s rest e
-ahead HashName s rest e = ahead-signed_name HashName 35 s rest leads-35 e
+ahead HashName s rest e = ahead-signed_name HashName 35 s rest leads-35 refl e
 ahead SymbolText s rest e = ahead-symbol_text s rest e
 ahead Digits s rest e = ahead-digits s rest e
 ahead Hex s rest e = ahead-hex s rest e

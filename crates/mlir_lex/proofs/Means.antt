@@ -1,30 +1,28 @@
 -- The computed reading of a text is what the grammar says, and nothing else is.
-use Rattle.std.proofs.Common.{◌≡◌, ◌⊎◌, inl, inr, ⊎_elim, ℕ, zero, suc, ◌+◌, ◌-◌, ◌<◌, ◌≤◌, Bool, true, false, not, ◌&&◌, cond, eqb, List, [], ◌∷◌, ◌++◌, length, drop, take, get_or, Option, Some, None, Result, Ok, Err, refl, ap, sym, ◌∙◌, subst, arith, length-take, length-take-le, take-append-drop, length-append, length-drop, ◌↔◌}
-use Rattle.std.proofs.lemmas.Bool.{false≢true, true≢false, and_parts, and_from, and_cases, eqb-true, eq-eqb}
+use Rattle.std.proofs.Common.{◌≡◌, ℕ, zero, suc, ◌+◌, ◌-◌, ◌<◌, ◌≤◌, Bool, true, false, ◌&&◌, cond, eqb, List, [], ◌∷◌, ◌++◌, length, drop, take, get_or, Option, Some, None, Result, Ok, Err, refl, ap, sym, ◌∙◌, subst, arith, length-take-le, take-append-drop, length-append, length-drop, ◌↔◌}
+use Rattle.std.proofs.lemmas.Bool.{false≢true, true≢false, and_parts, and_from, eqb-true, eq-eqb}
 use Rattle.std.proofs.lemmas.Bool.Decides.{nat_tests}
 use Rattle.std.proofs.lemmas.List.Sums.{prefix_len-le-length}
 use Rattle.std.proofs.Math.Seq.{drop-append_seam}
 use Rattle.std.specs.List.{prefix_len, starts_with}
 use Rattle.std.specs.Option.{is_none}
-use Rattle.std.specs.Prelude.{nat_eq}
-use lib.Chars.{codes}
+use Rattle.std.specs.Prelude.{nat_eq, codes}
 use Rattle.mlir_lex.specs.declared.bytes.ByteClass.TheVariants.{Blank, Line}
 use Rattle.mlir_lex.specs.declared.kinds.Token.{Token}
 use Rattle.mlir_lex.specs.declared.kinds.TokenKind.{TokenKind}
 use Rattle.mlir_lex.specs.declared.kinds.TokenKind.TheVariants.{Byte, End}
 use Rattle.mlir_lex.specs.declared.kinds.LexFault.{LexFault}
-use Rattle.mlir_lex.specs.declared.kinds.LexFault.TheVariants.{OpenString, BadByte}
 use Rattle.mlir_lex.specs.declared.scan.Lead.TheVariants as lead
 use Rattle.mlir_lex.specs.declared.scan.Item.TheVariants as item
 use Rattle.mlir_lex.specs.Bytes.{is_in, past}
 use Rattle.mlir_lex.specs.Grammar.{all_in, ends_quoted, is_quoted, is_token, IsLongest, EndsLine, IsComment, BeginsNothing, IsOpenQuote, is_digits, before, token_at, Reads}
 use Rattle.mlir_lex.specs.Grammar.Reads.{ended, blank, comment, token, point, open_string, bad_byte}
 use Rattle.mlir_lex.specs.Scan.{quoted_len, string_len, lead_of, front, piece_of, item_of, read, reading}
-use Rattle.mlir_lex.specs.Answer.{is_end, AreInOrder}
-use Rattle.mlir_lex.proofs.Longest.{leads-34, quoted-append, all-append, starts_tells}
+use Rattle.mlir_lex.specs.Answer.{is_end, AreInOrder, AreWithin}
+use Rattle.mlir_lex.proofs.Longest.{leads-34, quoted-append, starts_tells}
 use Rattle.mlir_lex.proofs.Sound.{all-take, quoted_passes}
 use Rattle.mlir_lex.proofs.Front.{empty_token, front_longest, front_none, front_of_longest}
-use Rattle.mlir_lex.proofs.Reading.{read-left, read-gap, read-piece, read-open_string, read-bad_byte}
+use Rattle.mlir_lex.proofs.Reading.{read-gap, read-piece, read-open_string, read-bad_byte}
 
 -- ---- comments
 
@@ -63,10 +61,11 @@ comment_at : (line : List ℕ) → let n : ℕ = past Line (codes "//" ++ line) 
 comment_at line =
     let k : ℕ = prefix_len (is_in Line) line in
     let e : 2 + k ≡ suc (suc k) = omega arith in
-    let le = prefix_len-le-length (is_in Line) line in
-    (subst (λ n. IsComment (take n (codes "//" ++ line)) (drop n (codes "//" ++ line))) (sym e)
-     (record { begun = refl; one_line = slashes_line (take k line) ∙ all-take Line line; ended = ends_line line }),
-     omega (arith, le))
+    let le = prefix_len-le-length (is_in Line) line in (
+      subst (λ n. IsComment (take n (codes "//" ++ line)) (drop n (codes "//" ++ line))) (sym e)
+          (record { begun = refl; one_line = slashes_line (take k line) ∙ all-take Line line; ended = ends_line line }),
+      omega (arith, le),
+    )
 
 -- ---- what begins a text, by its first byte
 
@@ -268,7 +267,7 @@ Reads-read at digits text outcome (bad_byte at' digits' text' nothing no_open no
     let text_is = some.2 in
     read-bad_byte text' at' digits'
     (ap (item_of digits') text_is ∙ bad_item digits' some.0 some.1 (subst BeginsNothing text_is nothing)
-     (λ h. no_open (subst IsOpenQuote (sym text_is) h)) (λ h. no_point (h.0, ap (λ l. get_or l 0 0) text_is ∙ h.1)))
+    (λ h. no_open (subst IsOpenQuote (sym text_is) h)) (λ h. no_point (h.0, ap (λ l. get_or l 0 0) text_is ∙ h.1)))
     (subst (λ l. 0 < length l) (sym text_is) (omega arith))
 
 -- ---- what is computed is what the grammar says
@@ -282,6 +281,7 @@ one_turn b bs at digits later =
   where
     text : List ℕ
     text = b ∷ bs
+
     in_front : is_in Blank b ≡ false → starts_with nat_eq text (codes "//") ≡ false → (digits && eqb b 46) ≡ false
         → (o : Option (TokenKind × ℕ)) → front text ≡ o → (t : Bool) → (eqb b 34 && is_none (quoted_len text)) ≡ t → Reads at digits text (read text at digits 0)
     in_front no_blank no_comment no_point (Some (kind, n)) e t f =
@@ -297,14 +297,16 @@ one_turn b bs at digits later =
         let nothing : BeginsNothing text = record { some = λ h. omega (arith, h); no_blank = no_blank; no_comment = no_comment; no_token = front_none text e } in
         subst (Reads at digits text) (sym (read-bad_byte text at digits is (omega arith)))
         (bad_byte at digits text nothing (no_open_quote b bs f) (λ h. true≢false (sym (and_from digits (eqb b 46) h.0 (eq-eqb b 46 h.1)) ∙ no_point)))
+
     if_point : is_in Blank b ≡ false → starts_with nat_eq text (codes "//") ≡ false → (t : Bool) → (digits && eqb b 46) ≡ t → Reads at digits text (read text at digits 0)
     if_point no_blank no_comment false e = in_front no_blank no_comment e (front text) refl (eqb b 34 && is_none (quoted_len text)) refl
     if_point no_blank no_comment true e =
         let parts = and_parts digits (eqb b 46) e in
         subst (λ d. Reads at d text (read text at d 0)) (sym parts.0)
         (subst (λ x. Later at (x ∷ bs) → Reads at true (x ∷ bs) (read (x ∷ bs) at true 0)) (sym (eqb-true b 46 parts.1))
-         (λ later. subst (Reads at true (46 ∷ bs)) (sym (read-piece (46 ∷ bs) at true (Byte 46) 1 (item-point bs) (omega arith) (omega arith))) (point at bs _ (later 1 (omega arith) (omega arith) false)))
-         later)
+        (λ later. subst (Reads at true (46 ∷ bs)) (sym (read-piece (46 ∷ bs) at true (Byte 46) 1 (item-point bs) (omega arith) (omega arith))) (point at bs _ (later 1 (omega arith) (omega arith) false)))
+        later)
+
     if_comment : is_in Blank b ≡ false → (t : Bool) → starts_with nat_eq text (codes "//") ≡ t → Reads at digits text (read text at digits 0)
     if_comment no_blank false e = if_point no_blank e (digits && eqb b 46) refl
     if_comment no_blank true e =
@@ -312,15 +314,16 @@ one_turn b bs at digits later =
         let whole = starts_tells text (codes "//") e in
         subst (λ x. Later at x → Reads at digits x (read x at digits 0)) (sym whole)
         (λ later.
-            let x = codes "//" ++ line in
-            let n : ℕ = past Line x 2 in
-            let c = comment_at line in
-            let len = length-take-le n x c.1 in
-            subst (Reads at digits x) (sym (read-gap x at digits n (item-comment digits line) (omega arith) c.1))
-            (subst (λ l. Reads at digits l (read (drop n x) (at + n) false 0)) (take-append-drop n x)
-             (comment at digits (take n x) (drop n x) (read (drop n x) (at + n) false 0) c.0
-              (subst (λ m. Reads (at + m) false (drop n x) (read (drop n x) (at + n) false 0)) (sym len) (later n (omega arith) c.1 false)))))
+        let x = codes "//" ++ line in
+        let n : ℕ = past Line x 2 in
+        let c = comment_at line in
+        let len = length-take-le n x c.1 in
+        subst (Reads at digits x) (sym (read-gap x at digits n (item-comment digits line) (omega arith) c.1))
+        (subst (λ l. Reads at digits l (read (drop n x) (at + n) false 0)) (take-append-drop n x)
+        (comment at digits (take n x) (drop n x) (read (drop n x) (at + n) false 0) c.0
+        (subst (λ m. Reads (at + m) false (drop n x) (read (drop n x) (at + n) false 0)) (sym len) (later n (omega arith) c.1 false)))))
         later
+
     if_blank : (t : Bool) → is_in Blank b ≡ t → Reads at digits text (read text at digits 0)
     if_blank false e = if_comment e (starts_with nat_eq text (codes "//")) refl
     if_blank true e =
@@ -403,3 +406,18 @@ in_order text ts e =
     let h = ordered 0 false text (Ok ts) (reading_means text (Ok ts) e) in
     let zero_len : 0 + length text ≡ length text = omega arith in
     subst (λ n. AreInOrder 0 ts n) zero_len h
+
+below_length : (from len : ℕ) (ts : List Token) → AreInOrder from ts len → from ≤ len
+below_length from len [] h = absurd h
+below_length from len (t ∷ []) h = h.0
+below_length from len (t ∷ u ∷ ts) h = omega (arith, h.0, h.1, below_length t.end len (u ∷ ts) h.3)
+
+in_order_within : (from len : ℕ) (ts : List Token) → AreInOrder from ts len → AreWithin ts len
+in_order_within from len [] h k d in_list = absurd h
+in_order_within from len (t ∷ []) h zero d in_list = (omega (arith, ap (λ x. x.start) h.1, ap (λ x. x.end) h.1), omega (arith, ap (λ x. x.end) h.1))
+in_order_within from len (t ∷ []) h (suc k) d in_list = absurd (omega arith)
+in_order_within from len (t ∷ u ∷ ts) h zero d in_list = (omega (arith, h.1), below_length t.end len (u ∷ ts) h.3)
+in_order_within from len (t ∷ u ∷ ts) h (suc k) d in_list = in_order_within t.end len (u ∷ ts) h.3 k d (omega arith)
+
+pub within : (text : List ℕ) (ts : List Token) → reading text ≡ Ok ts → AreWithin ts (length text)
+within text ts e = in_order_within 0 (length text) ts (in_order text ts e)

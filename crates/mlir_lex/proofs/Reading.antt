@@ -1,8 +1,7 @@
 -- One turn of the reading of a text.
-use Rattle.std.proofs.Common.{◌≡◌, ℕ, zero, suc, ◌+◌, ◌-◌, ◌<◌, ◌≤◌, Bool, true, false, List, [], ◌∷◌, ◌++◌, length, drop, Result, Ok, Err, refl, ap, sym, ◌∙◌, append_assoc, drop-drop, length-drop, arith}
+use Rattle.std.proofs.Common.{◌≡◌, ℕ, zero, suc, ◌+◌, ◌-◌, ◌<◌, ◌≤◌, Bool, false, List, [], ◌∷◌, ◌++◌, length, drop, Result, Ok, Err, refl, ap, sym, ◌∙◌, append_assoc, drop-drop, length-drop, arith}
 use Rattle.mlir_lex.specs.declared.kinds.Token.{Token}
 use Rattle.mlir_lex.specs.declared.kinds.TokenKind.{TokenKind}
-use Rattle.mlir_lex.specs.declared.kinds.TokenKind.TheVariants.{End}
 use Rattle.mlir_lex.specs.declared.kinds.LexFault.{LexFault}
 use Rattle.mlir_lex.specs.declared.kinds.LexFault.TheVariants as fault
 use Rattle.mlir_lex.specs.declared.scan.Item.TheVariants as item

@@ -1,23 +1,21 @@
 -- What `front` gives is a token of its kind.
-use Rattle.std.proofs.Common.{◌≡◌, ◌⊎◌, inl, inr, ℕ, zero, suc, ◌+◌, ◌-◌, ◌<◌, ◌≤◌, Bool, true, false, not, ◌&&◌, cond, eqb, List, [], ◌∷◌, ◌++◌, length, drop, take, get_or, Option, Some, None, refl, ap, sym, ◌∙◌, subst, arith, length-drop}
-use Rattle.std.proofs.lemmas.Bool.{false≢true, true≢false, and_parts, and_from, eqb-true, eq-eqb}
-use Rattle.std.proofs.lemmas.List.{drop-take}
+use Rattle.std.proofs.Common.{◌≡◌, ℕ, suc, ◌+◌, ◌≤◌, Bool, true, false, not, ◌&&◌, cond, eqb, List, [], ◌∷◌, ◌++◌, length, drop, take, get_or, Option, Some, None, refl, ap, sym, ◌∙◌, subst, arith}
+use Rattle.std.proofs.lemmas.Bool.{false≢true, and_from, eqb-true, eq-eqb}
 use Rattle.std.proofs.lemmas.List.Sums.{prefix_len-le-length}
 use Rattle.std.proofs.lemmas.Option.{same_Some}
 use Rattle.std.specs.List.{prefix_len, starts_with}
 use Rattle.std.specs.Option.{option_map, option_and_then}
-use Rattle.std.specs.Prelude.{nat_eq}
+use Rattle.std.specs.Prelude.{nat_eq, codes}
 use Rattle.std.specs.Str.{bytes_eq}
-use lib.Chars.{codes}
 use Rattle.mlir_lex.specs.declared.bytes.ByteClass.{ByteClass}
-use Rattle.mlir_lex.specs.declared.bytes.ByteClass.TheVariants.{Blank, Line, NameStart, NamePart, SuffixPart, Digit, HexDigit, Mark}
+use Rattle.mlir_lex.specs.declared.bytes.ByteClass.TheVariants.{NameStart, NamePart, SuffixPart, Digit, HexDigit, Mark}
 use Rattle.mlir_lex.specs.declared.strings.Escape.TheVariants as escape
 use Rattle.mlir_lex.specs.declared.kinds.TokenKind.{TokenKind}
-use Rattle.mlir_lex.specs.declared.kinds.TokenKind.TheVariants.{Name, ValueName, BlockName, SymbolName, HashName, SymbolText, Digits, Hex, Text, Memref, BangName, Arrow, Byte, End}
+use Rattle.mlir_lex.specs.declared.kinds.TokenKind.TheVariants.{ValueName, BlockName, SymbolName, HashName, SymbolText, Digits, Hex, Text, BangName, Arrow, Byte}
 use Rattle.mlir_lex.specs.declared.scan.Lead.{Lead}
 use Rattle.mlir_lex.specs.declared.scan.Lead.TheVariants as lead
 use Rattle.mlir_lex.specs.Bytes.{is_in, past}
-use Rattle.mlir_lex.specs.Grammar.{is_empty, all_in, some_in, is_name, is_signed_name, is_hex, ends_quoted, is_quoted, escapes_well, is_string, is_symbol_text, is_bang_name, open_after, ends_bracket, is_memref, is_mark, is_token}
+use Rattle.mlir_lex.specs.Grammar.{is_empty, all_in, some_in, is_name, is_signed_name, is_hex, ends_quoted, is_quoted, escapes_well, is_string, is_bang_name, open_after, ends_bracket, is_memref, is_token}
 use Rattle.mlir_lex.specs.Scan.{quote_end, quoted_len, string_len, bracket_end, memref_len, word, number, signed_name, symbol, bang_name, dash, lead_of, front_from, front}
 use Rattle.mlir_lex.proofs.Longest.{let_through, starts_tells, start_is_part}
 
@@ -107,7 +105,7 @@ Tells lead.Other b = Unit {0}
 tells : (b : ℕ) (t1 t2 t3 t4 t5 t6 t7 t8 t9 t10 : Bool) → is_in NameStart b ≡ t1 → is_in Digit b ≡ t2 → eqb b 37 ≡ t3 → eqb b 94 ≡ t4 → eqb b 35 ≡ t5
     → eqb b 64 ≡ t6 → eqb b 34 ≡ t7 → eqb b 33 ≡ t8 → eqb b 45 ≡ t9 → is_in Mark b ≡ t10
     → Tells (cond t1 lead.Word (cond t2 lead.Number (cond t3 (lead.Signed ValueName) (cond t4 (lead.Signed BlockName) (cond t5 (lead.Signed HashName)
-      (cond t6 lead.Symbol (cond t7 lead.Quote (cond t8 lead.Bang (cond t9 lead.Dash (cond t10 (lead.Mark b) lead.Other)))))))))) b
+    (cond t6 lead.Symbol (cond t7 lead.Quote (cond t8 lead.Bang (cond t9 lead.Dash (cond t10 (lead.Mark b) lead.Other)))))))))) b
 tells b true t2 t3 t4 t5 t6 t7 t8 t9 t10 e1 e2 e3 e4 e5 e6 e7 e8 e9 e10 = e1
 tells b false true t3 t4 t5 t6 t7 t8 t9 t10 e1 e2 e3 e4 e5 e6 e7 e8 e9 e10 = e2
 tells b false false true t4 t5 t6 t7 t8 t9 t10 e1 e2 e3 e4 e5 e6 e7 e8 e9 e10 = λ s. ap (λ b. is_signed_name b s) (sym (eqb-true b 37 e3))
@@ -179,11 +177,13 @@ cut-number b bs is = go (starts_with nat_eq (b ∷ bs) (codes "0x")) (is_in HexD
         let le = prefix_len-le-length (is_in Digit) bs in
         let e : 1 + prefix_len (is_in Digit) bs ≡ suc (prefix_len (is_in Digit) bs) = omega arith in
         (omega (arith, le), ap (λ n. some_in Digit (take n (b ∷ bs))) e ∙ and_from (is_in Digit b) (all_in Digit (take (prefix_len (is_in Digit) bs) bs)) is (all-take Digit bs))
+
     hex : (rest : List ℕ) → b ∷ bs ≡ codes "0x" ++ rest → is_in HexDigit (get_or rest 0 0) ≡ true → IsCut (Hex, past HexDigit (b ∷ bs) 2) (b ∷ bs)
     hex rest text first =
         let some = one_and_some HexDigit 120 rest first no_nul_hex in
         let e : 2 + prefix_len (is_in HexDigit) rest ≡ suc (suc some.1) = omega (arith, some.2) in
         subst (λ l. IsCut (Hex, past HexDigit l 2) l) (sym text) (omega (arith, some.0), ap (λ n. is_hex (take n (codes "0x" ++ rest))) e ∙ some.3)
+
     go : (t u : Bool) → starts_with nat_eq (b ∷ bs) (codes "0x") ≡ t → is_in HexDigit (get_or (b ∷ bs) 2 0) ≡ u
         → IsCut (cond (t && u) (Hex, past HexDigit (b ∷ bs) 2) (Digits, past Digit (b ∷ bs) 1)) (b ∷ bs)
     go false u x y = digits

@@ -1,6 +1,5 @@
 -- What a call answers for a whole text.
-use Rattle.std.proofs.Common.{◌≡◌, ◌⊎◌, inl, inr, ⊎_elim, ℕ, zero, suc, ◌+◌, ◌<◌, ◌≤◌, Bool, true, false, List, [], ◌∷◌, ◌++◌, length, take, Option, Some, Result, Ok, Err, IsUtf8, refl, ap, sym, ◌∙◌, subst, arith, append-nil}
-use Rattle.std.proofs.lemmas.List.{take_all}
+use Rattle.std.proofs.Common.{◌≡◌, ⊎_elim, ℕ, ◌+◌, Bool, true, false, List, [], ◌∷◌, length, Some, Result, Ok, Err, IsUtf8, ap, sym, ◌∙◌, arith, append-nil}
 use Rattle.std.proofs.lemmas.Option.{same_Some}
 use Rattle.mlir_lex.specs.declared.kinds.Token.{Token}
 use Rattle.mlir_lex.specs.declared.kinds.TokenKind.{TokenKind}
@@ -54,7 +53,7 @@ kind_is b bs kind e =
     let a = ahead kind (b ∷ bs) [] e in
     let found : front (b ∷ bs) ≡ Some a.0 = ap front (sym (append-nil (b ∷ bs))) ∙ a.1 in
     let cut = front_cuts b bs a.0 found in
-    (a.0, found, ⊎_elim (λ less. absurd (omega (arith, less, cut.0))) (λ same. same.1) a.2)
+    (a.0, found, ⊎_elim (λ less. absurd (omega (arith, less.0, cut.0))) (λ same. same.1) a.2)
 
 pub one_kind : (text : List ℕ) (kind other : TokenKind) → is_token kind text ≡ true → is_token other text ≡ true → kind ≡ other
 one_kind [] kind other e f = absurd (empty_token kind e)

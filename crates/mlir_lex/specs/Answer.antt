@@ -1,5 +1,5 @@
 -- What a call answers.
-use Rattle.std.specs.Prelude.{◌≡◌, ◌<◌, ◌≤◌, ℕ, Bool, true, false, List, [], ◌∷◌, length, Result, Ok, Err, IsUtf8}
+use Rattle.std.specs.Prelude.{◌≡◌, ◌<◌, ◌≤◌, ℕ, Bool, true, false, List, [], ◌∷◌, Result, Ok, Err, IsUtf8, All}
 use Rattle.std.specs.Str.{IsValidUpTo}
 use Rattle.mlir_lex.specs.declared.kinds.TokenKind.{TokenKind}
 use Rattle.mlir_lex.specs.declared.kinds.TokenKind.TheVariants.{End}
@@ -7,7 +7,6 @@ use Rattle.mlir_lex.specs.declared.kinds.Token.{Token}
 use Rattle.mlir_lex.specs.declared.kinds.LexFault.{LexFault}
 use Rattle.mlir_lex.specs.declared.kinds.LexFault.TheVariants.{BadUtf8, OpenString, BadByte, OutOfMemory}
 use Rattle.mlir_lex.specs.Grammar.{token_at, Reads}
-use Rattle.mlir_lex.specs.Scan.{reading}
 
 -- the text reads as these tokens
 abbrev pub AreTokens : List ℕ → List Token → Type 0
@@ -36,3 +35,7 @@ abbrev pub AreInOrder : ℕ → List Token → ℕ → Type 0
 AreInOrder from [] len = ⊥
 AreInOrder from (t ∷ []) len = (from ≤ len) × (t ≡ token_at End len len)
 AreInOrder from (t ∷ u ∷ ts) len = (from ≤ t.start) × (t.start < t.end) × (is_end t.kind ≡ false) × AreInOrder t.end (u ∷ ts) len
+
+-- each token is a part of a text of this length
+abbrev pub AreWithin : List Token → ℕ → Type 0
+AreWithin tokens len = All (λ t. (t.start ≤ t.end) × (t.end ≤ len)) tokens

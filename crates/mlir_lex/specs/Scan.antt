@@ -1,8 +1,7 @@
 -- The tokens of a text, computed from its front to its end. What they are is said in Grammar.
-use Rattle.std.specs.Prelude.{◌≡◌, ◌<◌, ◌≤◌, ℕ, zero, suc, ◌+◌, ◌-◌, Bool, true, false, not, ◌&&◌, ◌==◌, if◌then◌else◌, List, [], ◌∷◌, take, drop, length, slice_index, nat_eq, nat_lt, is_none, Option, Some, None, Result, Ok, Err}
+use Rattle.std.specs.Prelude.{ℕ, zero, suc, ◌+◌, ◌-◌, Bool, false, not, ◌&&◌, ◌==◌, if◌then◌else◌, List, [], ◌∷◌, take, drop, slice_index, nat_eq, nat_lt, is_none, Option, Some, None, Result, Ok, Err, codes}
 use Rattle.std.specs.List.{starts_with}
 use Rattle.std.specs.Option.{option_map, option_and_then}
-use lib.Chars.{codes}
 use Rattle.mlir_lex.specs.declared.bytes.ByteClass.TheVariants.{Blank, Line, NameStart, NamePart, SuffixPart, Digit, HexDigit, Mark}
 use Rattle.mlir_lex.specs.declared.strings.Escape.TheVariants as escape
 use Rattle.mlir_lex.specs.declared.kinds.TokenKind.{TokenKind}
@@ -110,11 +109,11 @@ abbrev pub read : List ℕ → ℕ → Bool → ℕ → Result (List Token) LexF
 read [] at digits left = Ok (token_at End at at ∷ [])
 read (b ∷ bs) at digits (suc left) = read bs (at + 1) digits left
 read (b ∷ bs) at digits zero = elim (item_of digits (b ∷ bs)) [
-    item.Gap n ↦ read bs (at + 1) false (n - 1)
+  | item.Gap n ↦ read bs (at + 1) false (n - 1)
   | item.Piece kind n ↦ before (token_at kind at (at + n)) (read bs (at + 1) (is_digits kind) (n - 1))
   | item.OpenString ↦ Err (fault.OpenString at)
   | item.BadByte ↦ Err (fault.BadByte at)
-  ]
+]
 
 -- a whole text
 abbrev pub reading : List ℕ → Result (List Token) LexFault

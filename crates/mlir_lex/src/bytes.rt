@@ -30,14 +30,27 @@ impl ByteClass {
             ByteClass::Blank => matches!(byte, b' ' | b'\t' | b'\r' | b'\n'),
             ByteClass::Line => byte != b'\n',
             ByteClass::NameStart => byte.is_ascii_alphabetic() || byte == b'_',
-            ByteClass::NamePart => byte.is_ascii_alphanumeric() || matches!(byte, b'_' | b'$' | b'.'),
-            ByteClass::SuffixPart => byte.is_ascii_alphanumeric() || matches!(byte, b'_' | b'$' | b'.' | b'-'),
+            ByteClass::NamePart => byte.is_ascii_alphanumeric()
+                || matches!(byte, b'_' | b'$' | b'.'),
+            ByteClass::SuffixPart => byte.is_ascii_alphanumeric()
+                || matches!(byte, b'_' | b'$' | b'.' | b'-'),
             ByteClass::Digit => byte.is_ascii_digit(),
             ByteClass::HexDigit => byte.is_ascii_hexdigit(),
             ByteClass::ShortEscape => matches!(byte, b'"' | b'\\' | b'n' | b't'),
             ByteClass::Mark => matches!(
                 byte,
-                b'(' | b')' | b'{' | b'}' | b'[' | b']' | b'<' | b'>' | b',' | b':' | b'=' | b'-' | b'*'
+                b'(' | b')'
+                    | b'{'
+                    | b'}'
+                    | b'['
+                    | b']'
+                    | b'<'
+                    | b'>'
+                    | b','
+                    | b':'
+                    | b'='
+                    | b'-'
+                    | b'*'
             ),
         }
     }

@@ -2,8 +2,8 @@
 #![tactic(auto)]
 
 ghost use Rattle.std.specs.Prelude.{◌≡◌, ◌<◌, ◌^◌, length, IfOk, IfErr, Ok, IsUtf8};
-ghost use Rattle.mlir_lex.specs.Answer.{AreTokens, AreInOrder, IsFault, Refuses};
-ghost use Rattle.mlir_lex.specs.Laws.{OneReading, OneKind};
+ghost use Rattle.mlir_lex.specs.Answer.{AreInOrder, AreTokens, AreWithin, IsFault, Refuses};
+ghost use Rattle.mlir_lex.specs.Laws.{OneKind, OneReading, ReadBack};
 ghost use Rattle.mlir_lex.specs.Scan.{reading};
 
 mod brackets;
@@ -13,9 +13,8 @@ mod kinds;
 mod scan;
 mod strings;
 
-use std::alloc::Global;
-
 pub use kinds::{LexFault, Token, TokenKind};
+use std::alloc::Global;
 
 /// Cuts a text into its tokens. Blanks and comments stand between them, and the last token is
 /// `End`, at the text's length.
@@ -36,7 +35,9 @@ pub fn tokens(alloc: Global, bytes: &[u8]) -> Result<Vec<Token>, LexFault>
     // The same, computed.
     ensures same_tokens { IfOk result (λ v. reading bytes.now ≡ Ok v.items) }
     ensures same_fault { IsUtf8 bytes.now → IfErr result (λ e. Refuses e (reading bytes.now)) }
+    // Their spans.
     ensures in_order { IfOk result (λ v. AreInOrder 0 v.items (length bytes.now)) }
+    ensures within { IfOk result (λ v. AreWithin v.items (length bytes.now)) }
 {
     if let Err(error) = std::str::from_utf8(bytes) {
         return Err(LexFault::BadUtf8 {
@@ -50,11 +51,17 @@ pub fn tokens(alloc: Global, bytes: &[u8]) -> Result<Vec<Token>, LexFault>
 /// A text has one reading by the grammar, and it is the one that is computed.
 pub fn one_reading()
     ensures { OneReading }
-{
-}
+{}
+
+/// A token with what can't lengthen it behind it is read back as itself.
+pub fn read_back()
+    ensures { ReadBack }
+{}
 
 /// No bytes are a token of two kinds.
 pub fn one_kind()
     ensures { OneKind }
-{
-}
+{}
+
+#[cfg(test)]
+mod tests;

@@ -89,10 +89,7 @@ fn symbol(text: &[u8]) -> Option<(TokenKind, usize)>
     ensures within { IfSome result (λ t. (0 < t.1) × (t.1 ≤ length text.now)) }
 {
     if ByteClass::SuffixPart.has(byte_at(text, 1)) {
-        return Some((
-            TokenKind::SymbolName,
-            past(ByteClass::SuffixPart, text, 1),
-        ));
+        return Some((TokenKind::SymbolName, past(ByteClass::SuffixPart, text, 1)));
     }
     let len = string_len(&text[1..])?;
     Some((TokenKind::SymbolText, len + 1))

@@ -24,7 +24,7 @@ pub local_next : (is_local : ℕ → Bool) (whole most count at : ℕ) → count
 local_next is_local whole most count at within said is =
     let left : most - count ≡ suc (most - (count + 1)) = omega arith in
     let one : local_from is_local (most - count) at ≡ local_from is_local (most - (count + 1)) (at + 1) + 1 =
-        rw left (next_of is_local (most - (count + 1)) at is) in
+    rw left (next_of is_local (most - (count + 1)) at is) in
     omega arith
 
 local_none : (is_local : ℕ → Bool) (at : ℕ) → local_from is_local 0 at ≡ 0

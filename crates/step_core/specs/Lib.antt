@@ -4,5 +4,5 @@ pub mod State
 pub mod Step
 pub mod Held
 pub mod Journal
-pub mod Ahead
 pub mod Laws
+pub mod Ahead

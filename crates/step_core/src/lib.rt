@@ -9,6 +9,8 @@ mod laws;
 mod machine;
 mod table;
 mod tasks;
+#[cfg(test)]
+mod tests;
 mod values;
 
 pub use code::{LocalRow, RootRow, Straight};

@@ -1,5 +1,5 @@
 use Rattle.std.proofs.lemmas.Result.{IfOk-weaker, IfErr-weaker}
-use Rattle.mlir_lex.proofs.Means.{in_order}
+use Rattle.mlir_lex.proofs.Means.{in_order, within}
 use Rattle.mlir_lex.proofs.Whole.{tokens_mean, fault_means}
 use Rattle.mlir_lex.proofs.tokens.Goals as goal
 
@@ -12,3 +12,6 @@ returns-clause-fault c = IfErr-weaker c.cut.result _ _ (λ e read. fault_means c
 
 pub returns-clause-in_order : goal.returns-clause-in_order
 returns-clause-in_order c = IfOk-weaker c.cut.result _ _ (λ v read. in_order c.args.bytes.now v.items read) c.cut.ensures.ok
+
+pub returns-clause-within : goal.returns-clause-within
+returns-clause-within c = IfOk-weaker c.cut.result _ _ (λ v read. within c.args.bytes.now v.items read) c.cut.ensures.ok

@@ -8,7 +8,7 @@ invariant-loop-at l = record {
   spare : l.spare ≡ spare (drop l.at l.text);
   few : l.spare + l.at ≤ length l.text;
   lengths : length l.closed.items ≡ length l.text;
-  within : l.at ≤ length l.text
+  within : l.at ≤ length l.text;
 }
 
 abbrev pub decreases-loop-at : goal.decreases-loop-at

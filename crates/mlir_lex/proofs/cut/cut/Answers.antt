@@ -1,6 +1,6 @@
-use Rattle.std.proofs.Common.{◌≡◌, ◌+◌, ◌<◌, ◌≤◌, false, length, drop, take, sym, ap, ◌∙◌, refl, arith, length-drop}
+use Rattle.std.proofs.Common.{false, length, drop, ap, ◌∙◌, arith}
 use Rattle.std.proofs.lemmas.List.{take_rest}
-use Rattle.mlir_lex.specs.Scan.{read, closed_at}
+use Rattle.mlir_lex.specs.Scan.{read}
 use Rattle.mlir_lex.proofs.Closed.{length-closed_at, drop-closed_at}
 use Rattle.mlir_lex.proofs.Reading.{with_front, with_front-nil, within_text, some_left, turn-gap, turn-piece, turn-open_string, turn-bad_byte}
 use Rattle.mlir_lex.proofs.cut.cut.Goals as goal

@@ -7,7 +7,7 @@ abbrev pub invariant-loop-at : goal.invariant-loop-at
 invariant-loop-at l = record {
   same : with_front l.tokens.items (read (drop l.at l.text) l.at l.after_digits 0) ≡ reading l.text;
   within : l.at ≤ length l.text;
-  table : length l.closed ≡ length l.text
+  table : length l.closed ≡ length l.text;
 }
 
 abbrev pub decreases-loop-at : goal.decreases-loop-at

@@ -6,7 +6,7 @@ abbrev pub invariant-loop-at : goal.invariant-loop-at
 invariant-loop-at l = record {
   same : quote_end (drop l.at l.text) l.is_hidden l.at ≡ quote_end (drop l.from l.text) false l.from;
   moved : l.from ≤ l.at;
-  within : l.at ≤ length l.text
+  within : l.at ≤ length l.text;
 }
 
 abbrev pub decreases-loop-at : goal.decreases-loop-at
