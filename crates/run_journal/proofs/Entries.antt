@@ -1,5 +1,5 @@
 -- Entries: which are possible, what they make, and how a journal goes on behind one.
-use Rattle.std.proofs.Common.{inl, inr, MatchOption, ◌≡◌, ◌≢◌, ℕ, zero, suc, ◌+◌, ◌-◌, ◌*◌, ◌^◌, ◌<◌, ◌≤◌, Bool, true, false, cond, eqb, ltb, List, [], ◌∷◌, length, get_or, drop, Option, Some, None, is_some, IsTrue, IsSome, MatchBool, ◌↔◌, slice_get, slice_set, refl, sym, ap, subst, ◌∙◌, arith, length-append, length-set, drop-cons, add-one}
+use Rattle.std.proofs.Common.{inl, inr, MatchOption, ◌≡◌, ◌≢◌, ℕ, zero, suc, ◌+◌, ◌-◌, ◌^◌, ◌<◌, ◌≤◌, Bool, true, false, cond, eqb, ltb, List, [], ◌∷◌, length, get_or, drop, Option, Some, None, is_some, IsTrue, IsSome, MatchBool, ◌↔◌, slice_get, slice_set, refl, sym, ap, subst, ◌∙◌, arith, length-append, length-set, drop-cons, add-one}
 use Rattle.std.proofs.lemmas.List.{drop_all}
 use Rattle.std.proofs.lemmas.Bool.Decides.{nat_tests}
 use Rattle.ir_forms.specs.declared.runs.ObjNo.{ObjNo}
@@ -27,7 +27,7 @@ use Rattle.run_journal.specs.declared.faults.TaskLook.{TaskLook}
 use Rattle.run_journal.specs.declared.faults.ReplayFault.TheVariants.{NotARun}
 use Rattle.run_journal.specs.Replay.{with_ready, look, look_at, first_fault, fault_at}
 use Rattle.run_journal.specs.Laws.{IsImpossible, ImpossibleByCases, ReplayedOrNamed}
-use Rattle.run_journal.specs.Growth.{HasRoom}
+use Rattle.run_journal.specs.Growth.{HasRoom, IsWithin}
 use Rattle.run_journal.proofs.Bursts.{OnlySteps, burst_none, burst_le, burst_keeps, burst_ahead, get_within, get-set_same, burst_stuck}
 
 -- what one step makes
@@ -271,12 +271,6 @@ burst_answer s next entry false same after = entry_agrees s entry None same afte
 cond_some : (b : Bool) (x : Option State) (y : State) → cond b x None ≡ Some y → x ≡ Some y
 cond_some true x y is = is
 cond_some false x y is = absurd (cc)
-
--- after so many entries no more steps, tasks and objects were made than they can make
-pub record IsWithin (entries : ℕ) (s : State) : Type 0 where
-  pub steps : s.steps ≤ entries * 4097
-  pub tasks : length s.tasks ≤ entries + 1
-  pub objects : length s.objects ≤ entries
 
 then_within : (k : ℕ) (s before next : State) (t local : ℕ) (b : Bool) → IsWithin k s → OnlySteps s before local → local ≤ 4096 →
     cond b (core_step before t) (Some before) ≡ Some next → IsWithin (k + 1) next
