@@ -289,7 +289,7 @@ then_within k s before next t local false within keeps most is =
       objects = omega (arith, keeps.objects, within.objects);
     })
 
-entry_within : (k : ℕ) (s next : State) (entry : Entry) → IsWithin k s → entry_after s entry ≡ Some next → IsWithin (k + 1) next
+pub entry_within : (k : ℕ) (s next : State) (entry : Entry) → IsWithin k s → entry_after s entry ≡ Some next → IsWithin (k + 1) next
 entry_within k s next entry within is =
     let t : ℕ = entry.task in
     let after : after_burst t (burst longest_burst s t) ≡ Some next =

@@ -1,6 +1,8 @@
 -- How much steps, bursts and entries make.
-use Rattle.std.specs.Prelude.{ℕ, ◌+◌, ◌*◌, ◌≤◌, ◌<◌, ◌^◌, ◌-◌, length}
+use Rattle.std.specs.Prelude.{◌≡◌, ℕ, ◌+◌, ◌*◌, ◌≤◌, ◌<◌, ◌^◌, ◌-◌, length, Some}
+use Rattle.step_core.specs.declared.ends.Entry.{Entry}
 use Rattle.step_core.specs.State.{State}
+use Rattle.step_core.specs.Journal.{entry_after}
 
 -- there are numbers for one more entry
 pub record HasRoom (s : State) : Type 0 where
@@ -13,3 +15,7 @@ pub record IsWithin (entries : ℕ) (s : State) : Type 0 where
   pub steps : s.steps ≤ entries * 4097
   pub tasks : length s.tasks ≤ entries + 1
   pub objects : length s.objects ≤ entries
+
+-- each entry makes no more than that
+abbrev pub EntriesStayWithin : Type 0
+EntriesStayWithin = (k : ℕ) (s next : State) (entry : Entry) → IsWithin k s → entry_after s entry ≡ Some next → IsWithin (k + 1) next

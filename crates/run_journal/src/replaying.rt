@@ -43,7 +43,9 @@ pub fn replay<'a>(
     Ok(core)
 }
 
-fn task_look(core: &Core, task: u32) -> Option<TaskLook>
+/// Whether a task is parked, and how many local steps stand before it in a row, at most 4,096. `None` where it
+/// isn't there.
+pub fn task_look(core: &Core, task: u32) -> Option<TaskLook>
     ensures { result ≡ look core.now task }
 {
     let task = TaskNo(task);
@@ -56,8 +58,9 @@ fn task_look(core: &Core, task: u32) -> Option<TaskLook>
     })
 }
 
-/// Takes the steps of an entry, of whose task the run has this. `false` where the entry isn't possible.
-fn take_entry(
+/// Takes the steps of an entry, of whose task the run has this. `false` where the entry isn't possible; some
+/// of its local steps may then be taken, as where memory runs out.
+pub fn take_entry(
     alloc: Global,
     core: &mut Core,
     entry: Entry,
