@@ -1,10 +1,9 @@
 -- The loop that takes a burst.
-use Rattle.std.proofs.Common.{◌≡◌, ℕ, suc, ◌+◌, ◌-◌, ◌<◌, ◌≤◌, length, Some, None, refl, sym, ap, subst, ◌∙◌, arith}
+use Rattle.std.proofs.Common.{◌≡◌, ℕ, ◌+◌, ◌-◌, ◌<◌, Some, None, refl, sym, ◌∙◌, arith}
 use Rattle.step_core.specs.State.{State}
 use Rattle.step_core.specs.Step.{core_step}
 use Rattle.step_core.specs.Journal.{burst, longest_burst}
-use Rattle.run_journal.specs.Growth.{HasRoom}
-use Rattle.run_journal.proofs.Bursts.{OnlySteps, burst_goes, burst_none, burst_le, local_keeps}
+use Rattle.run_journal.proofs.Bursts.{OnlySteps, burst_goes, burst_none, local_keeps}
 
 -- so many steps of a burst from `start` were taken, and it has so many
 pub record IsTaken (start s : State) (t local taken : ℕ) : Type 0 where
@@ -14,7 +13,8 @@ pub record IsTaken (start s : State) (t local taken : ℕ) : Type 0 where
 
 pub none_taken : (s : State) (t local : ℕ) → (burst longest_burst s t).0 ≡ local → IsTaken s s t local 0
 none_taken s t local is = record {
-  count = omega (arith, is); state = refl;
+  count = omega (arith, is);
+  state = refl;
   keeps = record { steps = omega arith; tasks = refl; objects = refl };
 }
 
@@ -26,9 +26,9 @@ next_taken start s new t local taken so below step =
     let same : goes.next ≡ new = cc in
     let left : goes.left ≡ longest_burst - (taken + 1) = omega (arith, goes.fewer) in
     let count : (burst (longest_burst - taken) s t).0 ≡ (burst (longest_burst - (taken + 1)) new t).0 + 1 =
-        goes.count ∙ rw (left, same) refl in
+    goes.count ∙ rw (left, same) refl in
     let state : (burst (longest_burst - taken) s t).1 ≡ (burst (longest_burst - (taken + 1)) new t).1 =
-        goes.state ∙ rw (left, same) refl in
+    goes.state ∙ rw (left, same) refl in
     let one : OnlySteps s new 1 = local_keeps s new t goes.is_local step in
     record {
       count = omega (arith, count, so.count);

@@ -1,18 +1,16 @@
 -- Bursts of local steps: how they go on, what they make, and how many rows they take.
-use Rattle.std.proofs.Common.{◌≡◌, ◌≢◌, ℕ, zero, suc, ◌+◌, ◌-◌, ◌*◌, ◌^◌, ◌<◌, ◌≤◌, Bool, true, false, cond, List, [], ◌∷◌, ◌++◌, length, Option, Some, None, is_some, slice_get, slice_set, refl, sym, ap, subst, ◌∙◌, arith, length-append, length-set}
+use Rattle.std.proofs.Common.{◌≡◌, ℕ, zero, suc, ◌+◌, ◌<◌, ◌≤◌, Bool, true, false, cond, List, [], ◌∷◌, length, Option, Some, None, is_some, slice_get, slice_set, refl, sym, ap, ◌∙◌, arith, length-set}
 use Rattle.ir_forms.specs.declared.runs.ObjNo.{ObjNo}
-use Rattle.ir_forms.specs.declared.runs.TaskNo.{TaskNo}
 use Rattle.step_core.specs.declared.code.LocalRow.{LocalRow}
 use Rattle.step_core.specs.declared.code.LocalRow.TheVariants.{Constant, Add}
 use Rattle.step_core.specs.declared.code.RootRow.{RootRow}
 use Rattle.step_core.specs.declared.code.RootRow.TheVariants.{Local, Launch, Await, Return}
-use Rattle.step_core.specs.declared.ends.Entry.{Entry}
 use Rattle.step_core.specs.declared.tasks.Body.{Body}
 use Rattle.step_core.specs.declared.tasks.Body.TheVariants.{Root, Launched}
 use Rattle.step_core.specs.declared.tasks.Task.{Task}
-use Rattle.step_core.specs.State.{State, made_ready}
-use Rattle.step_core.specs.Step.{core_step, task_step, ready_step, body_step, root_step, launched_step, region_rows, goes_on, after_local, wake, wake_one}
-use Rattle.step_core.specs.Journal.{burst, counted, option_then, local_step, next_is_local, task_is_local, body_is_local, is_local_row, longest_burst, after_burst, entry_after}
+use Rattle.step_core.specs.State.{State}
+use Rattle.step_core.specs.Step.{core_step, task_step, ready_step, body_step, root_step, launched_step, region_rows, goes_on, after_local}
+use Rattle.step_core.specs.Journal.{burst, counted, option_then, local_step, next_is_local, task_is_local, body_is_local, is_local_row}
 use Rattle.step_core.specs.Ahead.{is_local_at, local_from, local_ahead}
 
 pub get_within : {X : Type 0} (xs : List X) (i : ℕ) (x : X) → slice_get xs i ≡ Some x → i < length xs
@@ -100,8 +98,13 @@ goes_at n s t None is some = absurd (omega arith)
 goes_at n s t (Some next) is some =
     let took = local_took s next t is in
     record {
-      next = next; left = n; took = took.1; is_local = took.0; fewer = omega arith;
-      count = rw is refl; state = rw is refl;
+      next = next;
+      left = n;
+      took = took.1;
+      is_local = took.0;
+      fewer = omega arith;
+      count = rw is refl;
+      state = rw is refl;
     }
 
 pub burst_goes : (n : ℕ) (s : State) (t : ℕ) → 0 < (burst n s t).0 → Goes n s t
@@ -180,13 +183,13 @@ goes_here : (s : State) (t : ℕ) (task : Task) → slice_get s.tasks t ≡ Some
 goes_here s t task there ready is =
     let row = body_goes s t task task.body (same_local s task task.body ∙ is) in
     let step : core_step s t ≡ Some (goes_on s t (after_local row.0 task)) =
-        ap (λ o. task_step s t o) there ∙ ap (λ parked. ready_step s t task parked) ready ∙ row.1 in
+    ap (λ o. task_step s t o) there ∙ ap (λ parked. ready_step s t task parked) ready ∙ row.1 in
     (row.0, rw (is_here s t task there ∙ is) step)
 
 ahead_at : (n : ℕ) (s : State) (t : ℕ) (task : Task) (b : Bool) → is_local_at s.code task.body task.place ≡ b →
     slice_get s.tasks t ≡ Some (Some task) → task.parked ≡ None →
     ((next : State) (later : Task) → slice_get next.tasks t ≡ Some (Some later) → later.parked ≡ None →
-        (burst n next t).0 ≡ local_ahead next.code later n) →
+    (burst n next t).0 ≡ local_ahead next.code later n) →
     (burst (suc n) s t).0 ≡ local_ahead s.code task (suc n)
 unfolding burst local_from
 ahead_at n s t task false is there ready rest =
@@ -198,9 +201,9 @@ ahead_at n s t task true is there ready rest =
     let next : State = goes_on s t later in
     let within : t < length s.tasks = get_within s.tasks t (Some task) there in
     let counted : (burst n next t).0 ≡ local_from (is_local_at s.code later.body) n later.place =
-        rest next later (get-set_same s.tasks t (Some later) within) (after_local_parked went.0 task ∙ ready) in
+    rest next later (get-set_same s.tasks t (Some later) within) (after_local_parked went.0 task ∙ ready) in
     let moved : (burst n next t).0 ≡ local_from (is_local_at s.code task.body) n (task.place + 1) =
-        counted ∙ rw (after_local_body went.0 task, after_local_place went.0 task) refl in
+    counted ∙ rw (after_local_body went.0 task, after_local_place went.0 task) refl in
     rw (went.1, is) (ap (λ k. k + 1) moved)
 
 pub burst_ahead : (n : ℕ) (s : State) (t : ℕ) (task : Task) → slice_get s.tasks t ≡ Some (Some task) → task.parked ≡ None →

@@ -1,5 +1,5 @@
 -- Entries: which are possible, what they make, and how a journal goes on behind one.
-use Rattle.std.proofs.Common.{◌≡◌, ◌≢◌, ℕ, zero, suc, ◌+◌, ◌-◌, ◌*◌, ◌^◌, ◌<◌, ◌≤◌, Bool, true, false, cond, eqb, ltb, List, [], ◌∷◌, ◌++◌, length, get_or, drop, Option, Some, None, is_some, IsTrue, IsSome, MatchBool, ◌↔◌, slice_get, slice_set, refl, sym, ap, subst, ◌∙◌, arith, length-append, length-set, drop-cons, add-one}
+use Rattle.std.proofs.Common.{inl, inr, MatchOption, ◌≡◌, ◌≢◌, ℕ, zero, suc, ◌+◌, ◌-◌, ◌^◌, ◌<◌, ◌≤◌, Bool, true, false, cond, eqb, ltb, List, [], ◌∷◌, length, get_or, drop, Option, Some, None, is_some, IsTrue, IsSome, MatchBool, ◌↔◌, slice_get, slice_set, refl, sym, ap, subst, ◌∙◌, arith, length-append, length-set, drop-cons, add-one}
 use Rattle.std.proofs.lemmas.List.{drop_all}
 use Rattle.std.proofs.lemmas.Bool.Decides.{nat_tests}
 use Rattle.ir_forms.specs.declared.runs.ObjNo.{ObjNo}
@@ -20,15 +20,15 @@ use Rattle.step_core.specs.Registers.{value_at}
 use Rattle.step_core.specs.State.{State, made_ready, start_state}
 use Rattle.step_core.specs.Held.{HeldAnd}
 use Rattle.step_core.specs.declared.code.Straight.{Straight}
-use Rattle.step_core.specs.Step.{core_step, task_step, ready_step, body_step, root_step, launched_step, region_rows, await_value, await_object, awaits, ended, wake, wake_one}
-use Rattle.step_core.specs.Journal.{burst, local_step, longest_burst, after_burst, entry_after, replay}
+use Rattle.step_core.specs.Step.{core_step, task_step, ready_step, body_step, root_step, launched_step, region_rows, await_value, await_object, awaits, ended, wake, wake_one, and_then}
+use Rattle.step_core.specs.Journal.{burst, longest_burst, after_burst, entry_after, replay}
 use Rattle.step_core.specs.Ahead.{local_ahead}
 use Rattle.run_journal.specs.declared.faults.TaskLook.{TaskLook}
-use Rattle.run_journal.specs.declared.faults.ReplayFault.{ReplayFault}
 use Rattle.run_journal.specs.declared.faults.ReplayFault.TheVariants.{NotARun}
 use Rattle.run_journal.specs.Replay.{with_ready, look, look_at, first_fault, fault_at}
+use Rattle.run_journal.specs.Laws.{IsImpossible, ImpossibleByCases, ReplayedOrNamed}
 use Rattle.run_journal.specs.Growth.{HasRoom, IsWithin}
-use Rattle.run_journal.proofs.Bursts.{OnlySteps, burst_none, burst_le, burst_keeps, burst_goes, burst_ahead, get_within, get-set_same, burst_stuck}
+use Rattle.run_journal.proofs.Bursts.{OnlySteps, burst_none, burst_le, burst_keeps, burst_ahead, get_within, get-set_same, burst_stuck}
 
 -- what one step makes
 
@@ -81,9 +81,11 @@ ended_grows : (s : State) (t : ℕ) (token : ObjNo) (o : Option TheObject) (next
 ended_grows s t token None next is = absurd (cc)
 ended_grows s t token (Some object) next is =
     given s _ next
-        (record { steps = refl;
-                  tasks = rw (wake_length object.awaiters (slice_set s.tasks t None)) (simp length-set (omega arith));
-                  objects = simp length-set (omega arith) }) is
+    (record {
+      steps = refl;
+      tasks = rw (wake_length object.awaiters (slice_set s.tasks t None)) (simp length-set (omega arith));
+      objects = simp length-set (omega arith);
+    }) is
 
 launched_grows : (s : State) (t : ℕ) (task : Task) (token : ObjNo) (row : Option LocalRow) (next : State) →
     launched_step s t task token row ≡ Some next → Grows s next
@@ -134,7 +136,7 @@ burst_room s taken t local room is same =
     let keeps : OnlySteps s (burst longest_burst s t).1 (burst longest_burst s t).0 = burst_keeps longest_burst s t in
     let P : State → Type 0 = λ x. (x.steps < 2 ^ 40) × (length x.tasks < 2 ^ 32) × (length x.objects < 2 ^ 32 - 1) in
     subst P (sym same)
-        (omega (arith, keeps.steps, room.steps), omega (arith, keeps.tasks, room.tasks), omega (arith, keeps.objects, room.objects))
+    (omega (arith, keeps.steps, room.steps), omega (arith, keeps.tasks, room.tasks), omega (arith, keeps.objects, room.objects))
 
 pub entry_agrees : (s : State) (entry : Entry) (o : Option State) → (burst longest_burst s entry.task).0 ≡ entry.local →
     after_burst entry.task (burst longest_burst s entry.task) ≡ o → entry_after s entry ≡ o
@@ -178,7 +180,7 @@ pub ready_burst : (s : State) (t : ℕ) (task : Task) → slice_get s.tasks t �
     (burst longest_burst (with_ready s t task) t).0 ≡ local_ahead s.code task longest_burst
 ready_burst s t task there =
     burst_ahead longest_burst (with_ready s t task) t (made_ready task)
-        (get-set_same s.tasks t (Some (made_ready task)) (get_within s.tasks t (Some task) there)) refl
+    (get-set_same s.tasks t (Some (made_ready task)) (get_within s.tasks t (Some task) there)) refl
 
 pub look_there : (s : State) (t : ℕ) (task : Task) (parked : Bool) (local : ℕ) → slice_get s.tasks t ≡ Some (Some task) →
     parked ≡ is_some task.parked → local ≡ local_ahead s.code task longest_burst →
@@ -187,7 +189,7 @@ look_there s t task parked local there waits ahead =
     let count : local ≡ (burst longest_burst (with_ready s t task) t).0 = ahead ∙ sym (ready_burst s t task there) in
     let look_of : Bool → ℕ → Option TaskLook = λ parked local. Some (record { parked = parked; local = local }) in
     ap (λ o. look_at s t o) there
-        ∙ sym (ap (λ b. look_of b local) waits ∙ ap (λ n. look_of (is_some task.parked) n) count)
+    ∙ sym (ap (λ b. look_of b local) waits ∙ ap (λ n. look_of (is_some task.parked) n) count)
 
 seen_at : (s : State) (t : ℕ) (parked : Bool) (local : ℕ) (o : Option (Option Task)) → slice_get s.tasks t ≡ o →
     HeldAnd (λ task. IsTrue parked ↔ IsSome task.parked) o → HeldAnd (λ task. local ≡ local_ahead s.code task longest_burst) o →
@@ -259,7 +261,7 @@ other_refused s entry kept seen looks is ready other =
 
 pub burst_answer : (s next : State) (entry : Entry) (taken : Bool) → (burst longest_burst s entry.task).0 ≡ entry.local →
     MatchBool taken (after_burst entry.task (burst longest_burst s entry.task) ≡ Some next)
-        (after_burst entry.task (burst longest_burst s entry.task) ≡ None) →
+    (after_burst entry.task (burst longest_burst s entry.task) ≡ None) →
     MatchBool taken (entry_after s entry ≡ Some next) (entry_after s entry ≡ None)
 burst_answer s next entry true same after = entry_agrees s entry (Some next) same after
 burst_answer s next entry false same after = entry_agrees s entry None same after
@@ -291,13 +293,15 @@ pub entry_within : (k : ℕ) (s next : State) (entry : Entry) → IsWithin k s �
 entry_within k s next entry within is =
     let t : ℕ = entry.task in
     let after : after_burst t (burst longest_burst s t) ≡ Some next =
-        cond_some (eqb entry.local (burst longest_burst s t).0) (after_burst t (burst longest_burst s t)) next is in
+    cond_some (eqb entry.local (burst longest_burst s t).0) (after_burst t (burst longest_burst s t)) next is in
     then_within k s (burst longest_burst s t).1 next t (burst longest_burst s t).0 (ltb (burst longest_burst s t).0 longest_burst)
-        within (burst_keeps longest_burst s t) (burst_le longest_burst s t) after
+    within (burst_keeps longest_burst s t) (burst_le longest_burst s t) after
 
 pub within_room : (k : ℕ) (s : State) → IsWithin k s → k < 2 ^ 27 → HasRoom s
 within_room k s within few = record {
-  steps = omega (arith, within.steps); tasks = omega (arith, within.tasks); objects = omega (arith, within.objects);
+  steps = omega (arith, within.steps);
+  tasks = omega (arith, within.tasks);
+  objects = omega (arith, within.objects);
 }
 
 -- so many entries of the journal were taken
@@ -312,7 +316,8 @@ opened journal k d below = drop-cons journal k d below ∙ ap (λ n. get_or jour
 
 pub none_replayed : (code : Straight) (journal : List Entry) → IsReplayed (start_state code) (start_state code) journal 0
 none_replayed code journal = record {
-  state = refl; fault = refl;
+  state = refl;
+  fault = refl;
   within = record { steps = omega arith; tasks = omega arith; objects = omega arith };
 }
 
@@ -333,3 +338,85 @@ pub replay_ends : (start s : State) (journal : List Entry) (k : ℕ) → length 
     IsReplayed start s journal k → replay journal start ≡ Some s
 replay_ends start s journal k high so =
     let none : drop k journal ≡ [] = drop_all k journal high in so.state ∙ rw none refl
+
+-- the laws
+
+-- a test of numbers, and what it tells
+data Compared (a b : ℕ) : Type 0 where
+  Same : a ≡ b → Compared a b
+  Other : a ≢ b → Compared a b
+
+compared : (a b : ℕ) → Compared a b
+compared zero zero = Same refl
+compared zero (suc b) = Other (λ e. omega arith)
+compared (suc a) zero = Other (λ e. omega arith)
+compared (suc a) (suc b) = elim (compared a b) [ Same e ↦ Same (ap (λ n. suc n) e) | Other f ↦ Other (λ e. f (omega arith)) ]
+
+agreed : (s : State) (entry : Entry) (seen : TaskLook) → entry_after s entry ≡ None → (burst longest_burst s entry.task).0 ≡ seen.local →
+    seen.local ≡ entry.local → IsImpossible s entry (Some seen)
+agreed s entry seen none count same =
+    let after : after_burst entry.task (burst longest_burst s entry.task) ≡ None =
+    sym (entry_agrees s entry (after_burst entry.task (burst longest_burst s entry.task)) (count ∙ same) refl) ∙ none in
+    elim (compared (burst longest_burst s entry.task).0 longest_burst) [
+      | Same full ↦ absurd (let both : Some (burst longest_burst s entry.task).1 ≡ None = sym (after_full s entry.task full) ∙ after in cc both)
+      | Other short ↦
+          let most : (burst longest_burst s entry.task).0 ≤ longest_burst = burst_le longest_burst s entry.task in
+          let below : (burst longest_burst s entry.task).0 < longest_burst = omega arith in
+          inr (inr (omega (arith, count, same), sym (after_short s entry.task below) ∙ after))
+    ]
+
+ready_impossible : (s : State) (entry : Entry) (seen : TaskLook) → entry_after s entry ≡ None → look s entry.task ≡ Some seen →
+    seen.parked ≡ false → IsImpossible s entry (Some seen)
+ready_impossible s entry seen none is ready =
+    elim (compared seen.local entry.local) [
+      | Same same ↦ agreed s entry seen none (look_ready s entry.task seen is ready) same
+      | Other other ↦ inr (inl other)
+    ]
+
+seen_impossible : (s : State) (entry : Entry) (seen : TaskLook) (parked : Bool) → seen.parked ≡ parked → entry_after s entry ≡ None →
+    look s entry.task ≡ Some seen → IsImpossible s entry (Some seen)
+seen_impossible s entry seen true waits none is = inl waits
+seen_impossible s entry seen false ready none is = ready_impossible s entry seen none is ready
+
+to_cases : (s : State) (entry : Entry) (o : Option TaskLook) → look s entry.task ≡ o → entry_after s entry ≡ None → IsImpossible s entry o
+to_cases s entry None is none = tt
+to_cases s entry (Some seen) is none = seen_impossible s entry seen seen.parked refl none is
+
+late_refused : (s : State) (entry : Entry) (seen : TaskLook) (parked : Bool) → seen.parked ≡ parked → look s entry.task ≡ Some seen →
+    entry.local < longest_burst → core_step (burst longest_burst s entry.task).1 entry.task ≡ None → entry_after s entry ≡ None
+late_refused s entry seen true waits is below none = entry_refused s entry (look_parked s entry.task seen is waits)
+late_refused s entry seen false ready is below none =
+    elim (compared (burst longest_burst s entry.task).0 entry.local) [
+      | Same same ↦ entry_agrees s entry None same (after_short s entry.task (omega arith) ∙ none)
+      | Other other ↦ entry_differs s entry other
+    ]
+
+other_seen : (s : State) (entry : Entry) (seen : TaskLook) (parked : Bool) → seen.parked ≡ parked → look s entry.task ≡ Some seen →
+    seen.local ≢ entry.local → entry_after s entry ≡ None
+other_seen s entry seen true waits is other = entry_refused s entry (look_parked s entry.task seen is waits)
+other_seen s entry seen false ready is other =
+    other_refused s entry (look s entry.task) seen refl is ready other
+
+of_cases : (s : State) (entry : Entry) (o : Option TaskLook) → look s entry.task ≡ o → IsImpossible s entry o → entry_after s entry ≡ None
+of_cases s entry None is impossible = entry_refused s entry (look_gone s entry.task is)
+of_cases s entry (Some seen) is impossible = elim impossible [
+  | inl waits ↦ entry_refused s entry (look_parked s entry.task seen is waits)
+  | inr rest ↦ elim rest [
+    | inl other ↦ other_seen s entry seen seen.parked refl is other
+    | inr late ↦ late_refused s entry seen seen.parked refl is late.0 late.1
+  ]
+]
+
+pub impossible_by_cases : ImpossibleByCases
+impossible_by_cases s entry = (to_cases s entry (look s entry.task) refl, of_cases s entry (look s entry.task) refl)
+
+named_or : (k : ℕ) (entry : Entry) (entries : List Entry) (s : State) (o : Option State) →
+    ((after : State) → MatchOption (replay entries after) (IsSome (first_fault (k + 1) entries after)) (λ end. first_fault (k + 1) entries after ≡ None)) →
+    MatchOption (and_then (replay entries) o) (IsSome (fault_at k entry s (first_fault (k + 1) entries) o))
+    (λ end. fault_at k entry s (first_fault (k + 1) entries) o ≡ None)
+named_or k entry entries s None rest = refl
+named_or k entry entries s (Some after) rest = rest after
+
+pub replayed_or_named : ReplayedOrNamed
+replayed_or_named k [] s = refl
+replayed_or_named k (entry ∷ entries) s = named_or k entry entries s (entry_after s entry) (λ after. replayed_or_named (k + 1) entries after)

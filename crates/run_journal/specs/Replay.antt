@@ -16,7 +16,7 @@ with_ready s t task = record {
   objects = s.objects;
   root_end = s.root_end;
   steps = s.steps;
-  woken = s.woken
+  woken = s.woken;
 }
 
 -- whether a task is parked, and how many local steps it can take in a row, a parked one as if it were ready

@@ -5,15 +5,19 @@ mod faults;
 mod growth;
 mod laws;
 mod reading;
+#[cfg(test)]
+mod replay_tests;
 mod replaying;
 #[cfg(test)]
 mod tests;
 mod writing;
 
-pub use step_core::Entry;
 pub use faults::{JournalFault, ReplayFault, TaskLook};
 pub use growth::entries_stay_within;
-pub use laws::{no_journal_with_bad_line, one_bad_line, one_journal};
+pub use laws::{
+    impossible_by_cases, no_journal_with_bad_line, one_bad_line, one_journal, replayed_or_named,
+};
 pub use reading::read_journal;
 pub use replaying::{replay, take_entry, task_look};
+pub use step_core::Entry;
 pub use writing::{journal_text, push_journal};

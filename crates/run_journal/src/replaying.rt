@@ -58,7 +58,8 @@ pub fn task_look(core: &Core, task: u32) -> Option<TaskLook>
     })
 }
 
-/// Takes the steps of an entry, of whose task the run has this. `false` where the entry isn't possible.
+/// Takes the steps of an entry, of whose task the run has this. `false` where the entry isn't possible; some
+/// of its local steps may then be taken, as where memory runs out.
 pub fn take_entry(
     alloc: Global,
     core: &mut Core,
@@ -81,20 +82,13 @@ pub fn take_entry(
 
 /// Takes a burst of so many local steps, and below the longest the shared step that follows. `false` where
 /// this one can't be taken.
-fn take_burst(
-    alloc: Global,
-    core: &mut Core,
-    task: TaskNo,
-    local: u32,
-) -> Result<bool, AllocError>
+fn take_burst(alloc: Global, core: &mut Core, task: TaskNo, local: u32) -> Result<bool, AllocError>
     requires burst { (burst longest_burst core.old task.0).0 ≡ local }
     requires within { HasRoom core.old }
-    ensures taken {
-        IfOk result (λ taken.
-            MatchBool taken
-                (after_burst task.0 (burst longest_burst core.old task.0) ≡ Some core.new)
-                (after_burst task.0 (burst longest_burst core.old task.0) ≡ None))
-    }
+    ensures taken { IfOk result (λ taken.
+        MatchBool taken
+        (after_burst task.0 (burst longest_burst core.old task.0) ≡ Some core.new)
+        (after_burst task.0 (burst longest_burst core.old task.0) ≡ None)) }
 {
     take_local(alloc, core, task, local)?;
     if local == LONGEST_BURST {
@@ -107,12 +101,7 @@ fn take_burst(
 }
 
 /// Takes the local steps of a burst.
-fn take_local(
-    alloc: Global,
-    core: &mut Core,
-    task: TaskNo,
-    local: u32,
-) -> Result<(), AllocError>
+fn take_local(alloc: Global, core: &mut Core, task: TaskNo, local: u32) -> Result<(), AllocError>
     requires burst { (burst longest_burst core.old task.0).0 ≡ local }
     requires within { HasRoom core.old }
     ensures { OnOk result (core.new ≡ (burst longest_burst core.old task.0).1) }

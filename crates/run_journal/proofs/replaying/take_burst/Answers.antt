@@ -1,7 +1,5 @@
 -- Below the longest burst the shared step follows, from the state after the local ones.
-use Rattle.std.proofs.Common.{arith}
-use Rattle.step_core.specs.Held.{IsStep}
-use Rattle.run_journal.proofs.Entries.{after_full, burst_then, burst_room}
+use Rattle.run_journal.proofs.Entries.{burst_then, burst_room}
 use Rattle.run_journal.proofs.replaying.take_burst.Goals as goal
 
 pub step-requires-clause-steps : goal.step-requires-clause-steps
@@ -20,12 +18,16 @@ pub returns-in-Stepped : goal.returns-in-Stepped
 returns-in-Stepped c =
     let step = c.in_ok-step.ensures.step in
     let stepped = rw c.in-Stepped.is at step in
-    record { taken = burst_then c.args.core.now c.take_local.new.core c.args.task.0 c.args.local _ c.requires.burst
-        c.if-local-eq-LONGEST_BURST.false c.in_ok-take_local.ensures stepped }
+    record {
+      taken = burst_then c.args.core.now c.take_local.new.core c.args.task.0 c.args.local _ c.requires.burst
+          c.if-local-eq-LONGEST_BURST.false c.in_ok-take_local.ensures stepped;
+    }
 
 pub returns-in-NotReady : goal.returns-in-NotReady
 returns-in-NotReady c =
     let step = c.in_ok-step.ensures.step in
     let refused = rw c.in-NotReady.is at step in
-    record { taken = burst_then c.args.core.now c.take_local.new.core c.args.task.0 c.args.local _ c.requires.burst
-        c.if-local-eq-LONGEST_BURST.false c.in_ok-take_local.ensures refused.0 }
+    record {
+      taken = burst_then c.args.core.now c.take_local.new.core c.args.task.0 c.args.local _ c.requires.burst
+          c.if-local-eq-LONGEST_BURST.false c.in_ok-take_local.ensures refused.0;
+    }

@@ -8,23 +8,27 @@ returns-in_default c =
     record { taken = gone_refused c.args.core.now c.args.entry c.args.kept c.requires.kept c.in_default.is }
 
 pub returns-then-seen : goal.returns-then-seen
-returns-then-seen c = record { taken =
-    elim c.then-seen.branch [
-      then-seen-via-then-seen w ↦
-        parked_refused c.args.core.now c.args.entry c.args.kept c.in-Some.seen c.requires.kept c.in-Some.is w.if-seen.true
-    | then-seen-via-else-seen+then-seen-entry w ↦
-        other_refused c.args.core.now c.args.entry c.args.kept c.in-Some.seen c.requires.kept c.in-Some.is w.if-seen.false
+returns-then-seen c = record {
+  taken =
+      elim c.then-seen.branch [
+        | then-seen-via-then-seen w ↦
+            parked_refused c.args.core.now c.args.entry c.args.kept c.in-Some.seen c.requires.kept c.in-Some.is w.if-seen.true
+        | then-seen-via-else-seen+then-seen-entry w ↦
+            other_refused c.args.core.now c.args.entry c.args.kept c.in-Some.seen c.requires.kept c.in-Some.is w.if-seen.false
             w.if-seen-entry.true
-    ] }
+      ];
+}
 
 pub take_burst-requires-clause-burst : goal.take_burst-requires-clause-burst
 take_burst-requires-clause-burst c =
     seen_burst c.args.core.now c.args.entry.task c.args.kept c.in-Some.seen c.args.entry.local c.requires.kept c.in-Some.is
-        c.if-seen.false c.if-seen-entry.false
+    c.if-seen.false c.if-seen-entry.false
 
 pub returns : goal.returns
-returns c = record { taken =
-    burst_answer c.args.core.now c.take_burst.new.core c.args.entry c.in_ok-taken.taken
-        (seen_burst c.args.core.now c.args.entry.task c.args.kept c.in-Some.seen c.args.entry.local c.requires.kept c.in-Some.is
-            c.if-seen.false c.if-seen-entry.false)
-        c.in_ok-taken.ensures.taken }
+returns c = record {
+  taken =
+      burst_answer c.args.core.now c.take_burst.new.core c.args.entry c.in_ok-taken.taken
+      (seen_burst c.args.core.now c.args.entry.task c.args.kept c.in-Some.seen c.args.entry.local c.requires.kept c.in-Some.is
+      c.if-seen.false c.if-seen-entry.false)
+      c.in_ok-taken.ensures.taken;
+}

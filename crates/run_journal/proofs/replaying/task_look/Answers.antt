@@ -1,5 +1,4 @@
 -- The rows that stand before a task are its burst once it is ready.
-use Rattle.std.proofs.Common.{sym}
 use Rattle.run_journal.proofs.Entries.{look_seen}
 use Rattle.run_journal.proofs.replaying.task_look.Goals as goal
 
