@@ -4,6 +4,8 @@
 
 mod boxed;
 mod items;
+#[cfg(test)]
+mod tests;
 
 pub use boxed::Boxed;
 pub use items::Items;

@@ -1,0 +1,30 @@
+#!/usr/bin/env bash
+# Time and peak memory of `run` on the largest straight text that the limit of 1,048,576 bytes allows, and on a half
+# and a quarter of it.
+set -eu
+here="$(cd "$(dirname "$0")/.." && pwd)"
+"$here/dofraneg" run <"$here/examples/answer.mlir" >/dev/null
+program="$here/crates/async_cli/out/async_cli"
+text="$(mktemp)"
+trap 'rm -f "$text"' EXIT
+for bytes in 262144 524288 1048576; do
+  awk -v bytes="$bytes" 'BEGIN {
+    printf "func.func @main() -> i64 {\n  %%v0 = arith.constant 1 : i64\n"; size = 60
+    for (k = 1; ; k++) {
+      line = sprintf("  %%v%d = arith.addi %%v%d, %%v0 : i64\n", k, k - 1)
+      if (size + length(line) + 30 > bytes) break
+      printf "%s", line; size += length(line)
+    }
+    printf "  return %%v%d : i64\n}\n", k - 1
+  }' >"$text"
+  python3 - "$program" "$text" <<'P'
+import os, resource, subprocess, sys, time
+program, text = sys.argv[1:]
+begun = time.time()
+with open(text, 'rb') as source:
+    told = subprocess.run([program, 'run', '--steps'], stdin=source, stdout=subprocess.PIPE)
+spent = time.time() - begun
+peak = resource.getrusage(resource.RUSAGE_CHILDREN).ru_maxrss // 1024
+print(f"{os.path.getsize(text)} bytes: status {told.returncode}, {spent:.3f} s, {peak} MB, {told.stdout.decode().strip()!r}")
+P
+done

@@ -1,0 +1,26 @@
+#!/usr/bin/env bash
+# Time and peak memory of `run` for 1,000, 4,000 and 12,000 launches that are awaited in order.
+set -eu
+here="$(cd "$(dirname "$0")/.." && pwd)"
+"$here/dofraneg" run <"$here/examples/answer.mlir" >/dev/null
+program="$here/crates/async_cli/out/async_cli"
+text="$(mktemp)"
+trap 'rm -f "$text"' EXIT
+for launches in 1000 4000 12000; do
+  awk -v n="$launches" 'BEGIN {
+    print "func.func @main() {"
+    for (k = 0; k < n; k++) printf "%%t%d=async.execute{async.yield}\n", k
+    for (k = 0; k < n; k++) printf "async.await %%t%d:!async.token\n", k
+    print "return }"
+  }' >"$text"
+  python3 - "$program" "$text" <<'P'
+import os, resource, subprocess, sys, time
+program, text = sys.argv[1:]
+begun = time.time()
+with open(text, 'rb') as source:
+    told = subprocess.run([program, 'run', '--steps'], stdin=source, stdout=subprocess.PIPE)
+spent = time.time() - begun
+peak = resource.getrusage(resource.RUSAGE_CHILDREN).ru_maxrss // 1024
+print(f"{os.path.getsize(text)} bytes: status {told.returncode}, {spent:.3f} s, {peak} MB, {told.stdout.decode().strip()!r}")
+P
+done

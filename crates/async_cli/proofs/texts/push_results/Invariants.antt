@@ -1,0 +1,7 @@
+use Rattle.std.proofs.Common.{◌≡◌, ◌++◌, drop}
+use Rattle.async_cli.specs.Texts.{result_lines}
+use Rattle.async_cli.proofs.texts.push_results.Given as goal
+
+-- the lines so far, and those of the results left, are all
+abbrev pub invariant-loop-index : goal.invariant-loop-index
+invariant-loop-index l = l.text.items ++ result_lines l.index (drop l.index l.outs) ≡ l.initial.text.items ++ result_lines 0 l.outs
