@@ -211,30 +211,21 @@ fn names_a_failed_read_and_a_failed_write(rt: HostRuntime) -> Result<(), Fail> {
     Ok(())
 }
 
+fn blanks(alloc: Global, count: usize) -> Result<Vec<u8>, AllocError> {
+    vec![in alloc; b' '; count]
+}
+
 #[test]
 fn reads_up_to_the_limit(rt: HostRuntime) -> Result<(), Fail> {
     let alloc = rt.alloc();
-    let blanks = vec![in alloc; b' '; 1_048_577]?;
-    assert!(rt;
-        answers(
-            &rt,
-            alloc,
-            &["run"],
-            &blanks,
-            3,
-            b"refused: longer than 1048576 bytes\n"
-        )?
-    );
-    assert!(rt;
-        answers(
-            &rt,
-            alloc,
-            &["run"],
-            &blanks[..1_048_576],
-            3,
-            b"refused: no entry main\n"
-        )?
-    );
+    let rows: [(usize, &[u8]); 2] = [
+        (1_048_576, b"refused: no entry main\n"),
+        (1_048_577, b"refused: longer than 1048576 bytes\n"),
+    ];
+    for (count, told) in rows {
+        let text = blanks(alloc, count)?;
+        assert!(rt; answers(&rt, alloc, &["run"], text.as_slice(), 3, told)?);
+    }
     Ok(())
 }
 
