@@ -1,5 +1,5 @@
 -- A task that can take a step, whose next entry isn't possible, is stuck.
-use Rattle.std.proofs.Common.{◌≡◌, ◌≢◌, ℕ, ◌<◌, Bool, true, false, MatchBool, Option, Some, None, IsSome, slice_get, refl, sym, ap, subst, ◌∙◌, arith, inl, inr}
+use Rattle.std.proofs.Common.{◌≡◌, ℕ, Bool, true, false, MatchBool, Option, Some, None, IsSome, slice_get, refl, sym, ap, subst, ◌∙◌, arith, inl, inr}
 use Rattle.std.proofs.lemmas.Bool.{cases_order}
 use Rattle.ir_forms.specs.declared.runs.ObjNo.{ObjNo}
 use Rattle.step_core.specs.declared.ends.Entry.{Entry}

@@ -1,5 +1,5 @@
 -- How the parts of a run make its answer.
-use Rattle.std.proofs.Common.{◌≡◌, ◌≤◌, ℕ, List, [], length, Option, Some, None, Result, Ok, Err, MatchResult, Vec, Global, refl, sym, ap, subst, ◌∙◌, inl, inr}
+use Rattle.std.proofs.Common.{◌≡◌, ◌≤◌, ℕ, List, [], length, Option, Some, None, Result, Ok, Err, MatchResult, Vec, Global, refl, sym, ap, subst, inl, inr}
 use Rattle.std.specs.Io.KnownBytes.{Appends}
 use Rattle.aio_base.specs.Whole.{Told, ReadsWhole}
 use Rattle.mlir_text.specs.Grammar.{IsText}
@@ -15,7 +15,7 @@ use Rattle.async_cli.specs.declared.stops.Stop.TheVariants.{Words, Read, TooLong
 use Rattle.async_cli.specs.declared.words.Flags.{Flags}
 use Rattle.async_cli.specs.Stops.{stop_text}
 use Rattle.async_cli.specs.Texts.{run_text}
-use Rattle.async_cli.specs.Answers.{Given, Gave, Asks, ReadsModule, ReadStops, Enters, entry_of, LeadsTo, Finishes, Stops, RunsFrom, RunsModule, Causes, Ends, Owes, BreaksOff, IsTold, Answers, IsWritten, IsSaid, TextStops, text_limit}
+use Rattle.async_cli.specs.Answers.{Given, Gave, Asks, ReadsModule, ReadStops, Enters, entry_of, LeadsTo, Finishes, Stops, RunsFrom, RunsModule, Causes, Ends, Owes, Answers, IsWritten, IsSaid, TextStops, text_limit}
 
 pub finishes : (entry : Func) (flags : Flags) (journal : List Entry) (text : List ℕ) (s : State) → StraightReplaysMean →
     LeadsTo entry journal s → IsFinished s → text ≡ run_text flags s journal → Finishes entry flags journal text

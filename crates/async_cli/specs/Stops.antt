@@ -1,8 +1,8 @@
 -- The status and the text of each answer.
-use Rattle.std.specs.Prelude.{ℕ, List, [], ◌∷◌, ◌++◌, Option, Some, None, codes, decimal}
+use Rattle.std.specs.Prelude.{ℕ, List, [], Option, Some, None, codes}
 use Rattle.async_cli.specs.declared.stops.Stop.{Stop}
 use Rattle.async_cli.specs.declared.stops.Stop.TheVariants.{Words, Read, TooLong, NotYet, NoEntry, Short, Spent, Write, OutOfMemory}
-use Rattle.async_cli.specs.Texts.{line, numbered}
+use Rattle.async_cli.specs.Texts.{numbered}
 
 abbrev pub status_of : Option Stop → ℕ
 status_of None = 0

@@ -3,7 +3,6 @@ use Rattle.std.specs.Prelude.{ℕ, ◌+◌, ◌-◌, ◌^◌, ◌==◌, nat_lt, 
 use Rattle.ir_forms.specs.declared.runs.Out.{Out}
 use Rattle.ir_forms.specs.declared.types.OutTy.{OutTy}
 use Rattle.ir_forms.specs.declared.types.OutTy.TheVariants.{Int, Index}
-use Rattle.int_ops.specs.declared.Width.{Width}
 use Rattle.int_ops.specs.declared.Width.TheVariants.{W1, W8, W16, W32, W64}
 use Rattle.step_core.specs.declared.ends.End.{End}
 use Rattle.step_core.specs.declared.ends.End.TheVariants.{Done, Failed}

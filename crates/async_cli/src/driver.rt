@@ -38,7 +38,7 @@ pub fn drive(
         if core.finished() {
             return Ok(Outcome::Finished);
         }
-        let parked = core.left() as u64;
+        let parked = core.left() as u32;
         let Some(next) = next_task(core, task, &mut ready) else {
             return Ok(Outcome::Short { parked });
         };

@@ -6,5 +6,5 @@ pub enum Outcome {
     /// The journal is full.
     Spent,
     /// No task can go on, and so many are left.
-    Short { parked: u64 },
+    Short { parked: u32 },
 }

@@ -21,7 +21,7 @@ pub enum Stop {
     /// No function is called `main`.
     NoEntry,
     /// No task is ready, and so many are left.
-    Short { parked: u64 },
+    Short { parked: u32 },
     /// The journal has as many entries as allowed, and the run isn't finished.
     Spent { entries: u32 },
     /// A write failed after so many bytes of the answer's text.
@@ -60,7 +60,7 @@ impl Stop {
             Stop::NotYet => text.extend_from_slice(b"refused: not yet\n"),
             Stop::NoEntry => text.extend_from_slice(b"refused: no entry main\n"),
             Stop::Short { parked } => {
-                push_numbered(text, "stopped: parked tasks ", parked, "\n")
+                push_numbered(text, "stopped: parked tasks ", u64::from(parked), "\n")
             }
             Stop::Spent { entries } => {
                 push_numbered(text, "stopped: entries ", u64::from(entries), "\n")

@@ -1,6 +1,3 @@
-use Rattle.std.proofs.Common.{◌≡◌, length, Some}
-use Rattle.step_core.specs.Journal.{replay}
-use Rattle.run_journal.specs.Growth.{IsWithin}
 use Rattle.async_cli.specs.Driven.{IsDriven}
 use Rattle.async_cli.proofs.driver.drive.Given as goal
 
