@@ -2,8 +2,11 @@
 #![tactic(auto)]
 
 mod fault;
+mod form;
 mod place;
 mod scope;
+mod types;
 
+pub use form::Form;
 pub use fault::{Broken, VerifyKind};
 pub use place::Nest;
