@@ -4,7 +4,9 @@
 mod fault;
 mod form;
 mod place;
+mod rules;
 mod scope;
+mod site;
 mod types;
 
 pub use form::Form;
