@@ -1,3 +1,4 @@
+pub mod Breaks
 pub mod Faults
 pub mod Forms
 pub mod Places

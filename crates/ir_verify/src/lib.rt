@@ -1,6 +1,7 @@
 //! The verifier.
 #![tactic(auto)]
 
+mod breaks;
 mod fault;
 mod form;
 mod place;
