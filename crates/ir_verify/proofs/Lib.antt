@@ -1,2 +1,4 @@
 pub mod PlaceLemmas
 pub mod ScopeLemmas
+pub mod LastLemmas
+pub mod NameLemmas

@@ -1,6 +1,7 @@
 pub mod Breaks
 pub mod Faults
 pub mod Forms
+pub mod Names
 pub mod Places
 pub mod Rules
 pub mod Scopes

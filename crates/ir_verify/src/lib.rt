@@ -4,6 +4,7 @@
 mod breaks;
 mod fault;
 mod form;
+mod names;
 mod place;
 mod rules;
 mod scope;
