@@ -2,3 +2,5 @@ pub mod PlaceLemmas
 pub mod ScopeLemmas
 pub mod LastLemmas
 pub mod NameLemmas
+pub mod WalkLemmas
+pub mod StepLemmas

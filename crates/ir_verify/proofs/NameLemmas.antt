@@ -5,7 +5,9 @@ use Rattle.std.proofs.lemmas.Slice.Eq.{bytes_eq-Decides}
 use Rattle.std.proofs.lemmas.List.{take_more, length-take-le}
 use Rattle.std.specs.Str.{bytes_eq}
 use Rattle.ir_forms.specs.declared.ops.Func.{Func}
+use Rattle.std.specs.Prelude.{slice_get}
 use Rattle.ir_verify.specs.Names.{first_named}
+use Rattle.ir_verify.specs.Places.{named}
 
 -- the earlier place, where there is one
 abbrev pub or_else : Option ℕ → Option ℕ → Option ℕ
@@ -67,3 +69,34 @@ added_old funcs f key name is there = sym (first_added funcs f name ∙ step (by
         let same : f.name ≡ name = (bytes_eq-Decides f.name name).0 equal in
         keeps (first_named funcs name) (rw (← same, ← is) there) (Some (length funcs))
     step false equal = or_none (first_named funcs name)
+
+-- ---- the function of a name stands at its place
+
+pub named_at : (funcs : List Func) (name : List ℕ) (place : ℕ) → first_named funcs name ≡ Some place → named funcs name ≡ slice_get funcs place
+named_at [] name place is = cc
+named_at (f ∷ funcs) name place is = step (bytes_eq f.name name) place is (λ n was. named_at funcs name n was)
+  where
+    Again : Type 0
+    Again = (n : ℕ) → first_named funcs name ≡ Some n → named funcs name ≡ slice_get funcs n
+
+    deeper : (o : Option ℕ) (n : ℕ) → first_named funcs name ≡ o → option_map suc o ≡ Some n → Again → named funcs name ≡ slice_get (f ∷ funcs) n
+    deeper None n was is again = cc
+    deeper (Some m) zero was is again = cc
+    deeper (Some m) (suc n) was is again = let same : m ≡ n = cc in again n (was ∙ ap (λ k. Some k) same)
+
+    step : (b : Bool) (n : ℕ) → cond b (Some 0) (option_map suc (first_named funcs name)) ≡ Some n → Again → cond b (Some f) (named funcs name) ≡ slice_get (f ∷ funcs) n
+    step true zero is again = refl
+    step true (suc n) is again = cc
+    step false n is again = deeper (first_named funcs name) n refl is again
+
+pub named_none : (funcs : List Func) (name : List ℕ) → first_named funcs name ≡ None → named funcs name ≡ None
+named_none [] name is = refl
+named_none (f ∷ funcs) name is = step (bytes_eq f.name name) is (named_none funcs name)
+  where
+    deeper : (o : Option ℕ) → first_named funcs name ≡ o → option_map suc o ≡ None → (first_named funcs name ≡ None → named funcs name ≡ None) → named funcs name ≡ None
+    deeper None was is again = again was
+    deeper (Some m) was is again = cc
+
+    step : (b : Bool) → cond b (Some 0) (option_map suc (first_named funcs name)) ≡ None → (first_named funcs name ≡ None → named funcs name ≡ None) → cond b (Some f) (named funcs name) ≡ None
+    step true is again = cc
+    step false is again = deeper (first_named funcs name) refl is again

@@ -1,5 +1,6 @@
 -- The places of a module's operations: what stands round an operation, and the values that it sees.
-use Rattle.std.specs.Prelude.{ℕ, ◌+◌, Bool, true, false, List, [], ◌∷◌, ◌++◌, Option, Some, None}
+use Rattle.std.specs.Option.{unwrap_or}
+use Rattle.std.specs.Prelude.{ℕ, ◌+◌, slice_get, Bool, true, false, List, [], ◌∷◌, ◌++◌, Option, Some, None}
 use Rattle.op_table.specs.declared.kind.OpKind.{OpKind}
 use Rattle.op_table.specs.declared.kind.OpKind.TheVariants.{AsyncExecute, ScfParallel, FuncCall, AioTryCall}
 use Rattle.ir_forms.specs.declared.ops.Op.{Op, Op-F, out-Op}
@@ -129,3 +130,7 @@ module _ (funcs : List Func) where
 -- what stands round the operations of a function's body, and what these see
 abbrev pub in_body : Func → Bool → Around
 in_body f is_called = record { func = f; is_called = is_called; holder = None; region = 0; nest = InFunction }
+
+-- the type at a place, if there is one
+abbrev pub type_at : List Ty → ℕ → Ty
+type_at types i = unwrap_or (slice_get types i) Untyped

@@ -10,6 +10,7 @@ mod rules;
 mod scope;
 mod site;
 mod types;
+mod walk;
 
 pub use form::Form;
 pub use fault::{Broken, VerifyKind};

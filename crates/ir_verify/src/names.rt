@@ -1,5 +1,5 @@
 //! The functions of a module by their names.
-ghost use Rattle.std.specs.Prelude.{◌≡◌, IfOk};
+ghost use Rattle.std.specs.Prelude.{◌≡◌, IfOk, slice_get};
 ghost use Rattle.std.specs.Option.{option_copied};
 ghost use Rattle.ir_verify.specs.Places.{called};
 ghost use Rattle.ir_verify.specs.Names.{first_named};
@@ -52,4 +52,24 @@ impl<'a> Names<'a> {
     {
         self.places.get(name).copied()
     }
+
+    /// The function that an operation names by what it carries, if there is one.
+    #[tactic(auto, using(crate::proofs::NameLemmas::named_at, crate::proofs::NameLemmas::named_none))]
+    pub(crate) fn called(&self, attr: &Attr) -> Option<&'a Func>
+        ensures { option_copied result ≡ called self.now attr.now }
+    {
+        match attr {
+            Attr::Callee(name) => match self.find(name.as_slice()) {
+                Some(place) => func_at(self.funcs, place),
+                None => None,
+            },
+            _ => None,
+        }
+    }
+}
+
+fn func_at(funcs: &[Func], place: usize) -> Option<&Func>
+    ensures { option_copied result ≡ slice_get funcs.now place }
+{
+    funcs.get(place)
 }
