@@ -1,4 +1,5 @@
 pub mod Breaks
+pub mod Calls
 pub mod Faults
 pub mod Forms
 pub mod Names

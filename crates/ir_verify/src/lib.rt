@@ -2,6 +2,7 @@
 #![tactic(auto)]
 
 mod breaks;
+mod calls;
 mod fault;
 mod form;
 mod names;
@@ -12,6 +13,7 @@ mod site;
 mod types;
 mod walk;
 
+pub use calls::Call;
 pub use form::Form;
 pub use fault::{Broken, VerifyKind};
 pub use place::Nest;
