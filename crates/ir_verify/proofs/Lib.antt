@@ -4,3 +4,4 @@ pub mod LastLemmas
 pub mod NameLemmas
 pub mod WalkLemmas
 pub mod StepLemmas
+pub mod CallLemmas

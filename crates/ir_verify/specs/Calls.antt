@@ -2,6 +2,7 @@
 use Rattle.std.specs.Prelude.{◌≡◌, ◌<◌, ℕ, ◌+◌, ◌&&◌, ◌||◌, Bool, true, false, List, [], ◌∷◌, ◌++◌, length, map, Option, Some, None, slice_get, if◌then◌else◌}
 use Rattle.ir_forms.specs.declared.ops.Attr.{Attr}
 use Rattle.ir_forms.specs.declared.ops.Attr.TheVariants.{Callee}
+use Rattle.ir_forms.specs.declared.ops.Op.{Op}
 use Rattle.ir_forms.specs.declared.ops.Func.{Func}
 use Rattle.ir_forms.specs.Ops.{attr_of}
 use Rattle.ir_verify.specs.declared.calls.Call.{Call}
@@ -30,8 +31,11 @@ call_to None nest = []
 call_to (Some callee) nest = record { callee = callee; in_task = is_in_task nest } ∷ []
 
 -- the call that an operation is, if it names a function
+abbrev pub call_of : List Func → Op → Nest → List Call
+call_of funcs op nest = if is_call (form op) then call_to (callee_place funcs (attr_of op)) nest else []
+
 abbrev pub call_at : List Func → Spot → List Call
-call_at funcs s = if is_call (form s.place.op) then call_to (callee_place funcs (attr_of s.place.op)) s.place.around.nest else []
+call_at funcs s = call_of funcs s.place.op s.place.around.nest
 
 abbrev pub calls_among : List Func → List Spot → List Call
 calls_among funcs [] = []

@@ -170,7 +170,7 @@ fn some_region(kind: VerifyKind, op: &Op) -> bool
     false
 }
 
-fn is_call(form: Form) -> bool
+pub(crate) fn is_call(form: Form) -> bool
     ensures { result ≡ is_call form }
 {
     matches!(form, Form::Call | Form::TryCall)

@@ -3,23 +3,28 @@ ghost use Rattle.std.specs.Prelude.{◌≡◌, ◌++◌, [], ◌∷◌, OnOk, If
 ghost use Rattle.ir_forms.specs.Ops.{results_of};
 ghost use Rattle.ir_forms.specs.declared.types.Ty.TheVariants.{Untyped};
 ghost use Rattle.ir_verify.specs.Breaks.{noted_all};
+ghost use Rattle.ir_verify.specs.Calls.{call_of, calls_among};
 ghost use Rattle.ir_verify.specs.Places.{defined, types_of, params_of, places_at, places_in, type_at};
 ghost use Rattle.ir_verify.specs.Sites.{around_of};
 
-use crate::breaks::noted_spot;
+use crate::breaks::{is_call, noted_spot};
+use crate::calls::{Call, call_to};
 use crate::fault::Broken;
+use crate::form::Form;
 use crate::names::Names;
+use crate::place::Nest;
 use crate::scope::Scope;
 use crate::site::{Scene, Site};
 use ir_forms::{Op, Region, Ty, ValueNo};
 use lists::Items;
 use std::alloc::AllocError;
 
-/// Where the walk stands: what is visible, and the earliest fault so far.
+/// Where the walk stands: what is visible, the earliest fault and the calls so far.
 #[derive(Drop)]
 pub(crate) struct Walk<'a> {
     pub(crate) scope: Scope<'a>,
     pub(crate) best: Option<Broken>,
+    pub(crate) calls: Vec<Call>,
 }
 
 /// Makes the results of an operation visible. One that has no type is untyped.
@@ -55,12 +60,25 @@ fn define_params<'a>(scope: &mut Scope<'a>, params: &'a [(ValueNo, Ty)]) -> Resu
     Ok(())
 }
 
+/// Adds the call that an operation is, if it names a function.
+fn note_call(calls: &mut Vec<Call>, names: &Names, op: &Op, nest: Nest) -> Result<(), AllocError>
+    ensures { OnOk result (calls.new.items ≡ calls.old.items ++ call_of names.now op.now nest) }
+{
+    if is_call(Form::of(op.kind)) {
+        if let Some(call) = call_to(names, &op.attr, nest) {
+            calls.push(call)?;
+        }
+    }
+    Ok(())
+}
+
 impl<'a> Walk<'a> {
     /// Counts the faults of an operation and of what stands in it, and makes its results visible.
     #[cycle(walk)]
     fn walk_op(&mut self, names: &Names<'a>, untyped: &'a Ty, op: &'a Op, scene: &Scene<'a>, is_last: bool) -> Result<(), AllocError>
         requires { untyped.now ≡ Untyped }
         ensures seen { OnOk result (self.new.scope ≡ self.old.scope ++ defined (results_of op.now) (types_of op.now)) }
+        ensures calls { OnOk result (self.new.calls.items ≡ self.old.calls.items ++ calls_among names.now (places_at names.now op.now (around_of scene.now) self.old.scope is_last)) }
         ensures best { OnOk result (self.new.best ≡ noted_all (places_at names.now op.now (around_of scene.now) self.old.scope is_last) self.old.best) }
     {
         let site = Site {
@@ -70,6 +88,7 @@ impl<'a> Walk<'a> {
             op,
         };
         self.best = noted_spot(&self.scope, &site, self.best);
+        note_call(&mut self.calls, names, op, scene.nest)?;
         let regions = op.regions.as_slice();
         for (place, region) in regions.iter().enumerate() {
             self.walk_region(names, untyped, region, &scene.within(op, place))?;
@@ -82,6 +101,7 @@ impl<'a> Walk<'a> {
     pub(crate) fn walk_region(&mut self, names: &Names<'a>, untyped: &'a Ty, region: &'a Region, scene: &Scene<'a>) -> Result<(), AllocError>
         requires { untyped.now ≡ Untyped }
         ensures seen { OnOk result (self.new.scope ≡ self.old.scope) }
+        ensures calls { OnOk result (self.new.calls.items ≡ self.old.calls.items ++ calls_among names.now (places_in names.now region.now (around_of scene.now) self.old.scope)) }
         ensures best { OnOk result (self.new.best ≡ noted_all (places_in names.now region.now (around_of scene.now) self.old.scope) self.old.best) }
     {
         let depth = self.scope.len();
