@@ -8,3 +8,4 @@ pub mod Rules
 pub mod Scopes
 pub mod Sites
 pub mod Types
+pub mod Verdict

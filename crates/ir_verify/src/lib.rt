@@ -11,6 +11,7 @@ mod rules;
 mod scope;
 mod site;
 mod types;
+mod verdict;
 mod walk;
 
 pub use calls::Call;

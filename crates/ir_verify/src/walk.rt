@@ -4,7 +4,7 @@ ghost use Rattle.ir_forms.specs.Ops.{results_of};
 ghost use Rattle.ir_forms.specs.declared.types.Ty.TheVariants.{Untyped};
 ghost use Rattle.ir_verify.specs.Breaks.{noted_all};
 ghost use Rattle.ir_verify.specs.Calls.{call_of, calls_among};
-ghost use Rattle.ir_verify.specs.Places.{defined, types_of, params_of, places_at, places_in, type_at};
+ghost use Rattle.ir_verify.specs.Places.{in_body, defined, types_of, params_of, places_at, places_in, type_at};
 ghost use Rattle.ir_verify.specs.Sites.{around_of};
 
 use crate::breaks::{is_call, noted_spot};
@@ -15,9 +15,9 @@ use crate::names::Names;
 use crate::place::Nest;
 use crate::scope::Scope;
 use crate::site::{Scene, Site};
-use ir_forms::{Op, Region, Ty, ValueNo};
+use ir_forms::{Func, Op, Region, Ty, ValueNo};
 use lists::Items;
-use std::alloc::AllocError;
+use std::alloc::{AllocError, Global};
 
 /// Where the walk stands: what is visible, the earliest fault and the calls so far.
 #[derive(Drop)]
@@ -64,8 +64,9 @@ fn define_params<'a>(scope: &mut Scope<'a>, params: &'a [(ValueNo, Ty)]) -> Resu
 fn note_call(calls: &mut Vec<Call>, names: &Names, op: &Op, nest: Nest) -> Result<(), AllocError>
     ensures { OnOk result (calls.new.items ≡ calls.old.items ++ call_of names.now op.now nest) }
 {
-    if is_call(Form::of(op.kind)) {
-        if let Some(call) = call_to(names, &op.attr, nest) {
+    let form = Form::of(op.kind);
+    if is_call(form) {
+        if let Some(call) = call_to(names, &op.attr, nest, form) {
             calls.push(call)?;
         }
     }
@@ -114,4 +115,29 @@ impl<'a> Walk<'a> {
         self.scope.truncate(depth);
         Ok(())
     }
+}
+
+/// Walks over a function's body, with the faults of others counted before.
+pub(crate) fn walk_func<'a>(
+    alloc: Global,
+    names: &Names<'a>,
+    untyped: &'a Ty,
+    func: &'a Func,
+    is_called: bool,
+    best: Option<Broken>,
+) -> Result<Walk<'a>, AllocError>
+    requires { untyped.now ≡ Untyped }
+    ensures calls { IfOk result (λ walk. walk.calls.items ≡ calls_among names.now (places_in names.now func.now.body (in_body func.now is_called) func.now.params)) }
+    ensures best { IfOk result (λ walk. walk.best ≡ noted_all (places_in names.now func.now.body (in_body func.now is_called) func.now.params) best) }
+{
+    let mut scope = Scope::new(alloc);
+    define_params(&mut scope, func.params.as_slice())?;
+    let mut walk = Walk {
+        scope,
+        best,
+        calls: Vec::new(alloc),
+    };
+    let scene = Scene::of_body(func, is_called);
+    walk.walk_region(names, untyped, &func.body, &scene)?;
+    Ok(walk)
 }
