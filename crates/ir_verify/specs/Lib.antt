@@ -1,4 +1,5 @@
 pub mod Breaks
+pub mod Entry
 pub mod Calls
 pub mod Faults
 pub mod Forms
@@ -9,3 +10,4 @@ pub mod Scopes
 pub mod Sites
 pub mod Types
 pub mod Verdict
+pub mod Verified

@@ -12,9 +12,11 @@ mod scope;
 mod site;
 mod types;
 mod verdict;
+mod verified;
 mod walk;
 
 pub use calls::Call;
 pub use form::Form;
 pub use fault::{Broken, VerifyKind};
 pub use place::Nest;
+pub use verified::Verified;

@@ -132,15 +132,15 @@ fn some_func_tries(graph: &[Items<Call>]) -> bool
 }
 
 /// The earliest fault of a module's functions, if there is one, and their level.
-pub(crate) fn judge(alloc: Global, funcs: &[Func]) -> Result<(Option<Broken>, Level), AllocError>
+pub(crate) fn judge<'a>(alloc: Global, untyped: &'a Ty, funcs: &'a [Func]) -> Result<(Option<Broken>, Level), AllocError>
+    requires { untyped.now ≡ Untyped }
     ensures fault { IfOk result (λ r. IsNoted funcs.now r.0) }
     ensures level { IfOk result (λ r. r.1 ≡ level_of funcs.now) }
 {
-    let untyped = Ty::Untyped;
     let names = Names::new(alloc, funcs)?;
-    let graph = graph_of(alloc, &names, &untyped, funcs)?;
+    let graph = graph_of(alloc, &names, untyped, funcs)?;
     let marks = marks(alloc, graph.as_slice())?;
-    let best = noted_funcs(alloc, &names, &untyped, funcs, marks.as_slice())?;
+    let best = noted_funcs(alloc, &names, untyped, funcs, marks.as_slice())?;
     let level = if some_func_tries(graph.as_slice()) {
         Level::Split
     } else {
