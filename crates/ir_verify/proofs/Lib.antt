@@ -5,3 +5,4 @@ pub mod NameLemmas
 pub mod WalkLemmas
 pub mod StepLemmas
 pub mod CallLemmas
+pub mod VerdictLemmas

@@ -1,3 +1,4 @@
+pub mod Answer
 pub mod Breaks
 pub mod Entry
 pub mod Calls
