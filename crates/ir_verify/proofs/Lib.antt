@@ -6,3 +6,4 @@ pub mod WalkLemmas
 pub mod StepLemmas
 pub mod CallLemmas
 pub mod VerdictLemmas
+pub mod LawLemmas

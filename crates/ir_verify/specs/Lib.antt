@@ -4,6 +4,7 @@ pub mod Entry
 pub mod Calls
 pub mod Faults
 pub mod Forms
+pub mod Laws
 pub mod Names
 pub mod Places
 pub mod Rules
