@@ -1,11 +1,11 @@
 -- Marks of the functions that tasks call.
-use Rattle.std.proofs.Common.{◌≡◌, ◌⊎◌, inl, inr, ℕ, zero, suc, ◌+◌, ◌<◌, ◌≤◌, ◌==◌, ◌&&◌, ◌||◌, if◌then◌else◌, Bool, true, false, List, [], ◌∷◌, length, Option, Some, None, refl, sym, ap, ◌∙◌, arith, subst, zero-add}
+use Rattle.std.proofs.Common.{◌≡◌, ◌⊎◌, inl, inr, ℕ, zero, suc, ◌+◌, ◌<◌, ◌&&◌, ◌||◌, if◌then◌else◌, Bool, true, false, List, [], ◌∷◌, length, Option, Some, None, refl, sym, ap, ◌∙◌, arith, subst, zero-add}
 use Rattle.std.specs.Prelude.{slice_get, slice_set}
 use Rattle.std.proofs.lemmas.Bool.Decides.{eqb_tells}
 use Rattle.std.proofs.lemmas.Option.{slice_get_within}
 use Rattle.ir_verify.specs.declared.calls.Call.{Call}
-use Rattle.ir_verify.specs.Calls.{HasCall, IsReached, from_task, through, AreMarks, is_unmarked, is_marked, open_callee, open_from, or_later}
-use Rattle.ir_verify.proofs.ScopeLemmas.{get_set, get_set_other}
+use Rattle.ir_verify.specs.Calls.{HasCall, IsReached, from_task, through, is_unmarked, is_marked, open_callee, open_from, or_later}
+use Rattle.ir_verify.proofs.ScopeLemmas.{get_set_other}
 
 -- how many functions have no mark
 abbrev pub unmarked : List Bool → ℕ
@@ -135,18 +135,20 @@ pub open_reached : (graph : List (List Call)) (marks : List Bool) (callee : ℕ)
 open_reached graph marks callee sound is =
     let f : FoundFrom marks 0 graph callee = found_from marks 0 graph callee is in
     let has : HasCall graph f.caller f.found.call = record { calls = f.calls; at = f.found.at; of_caller = f.of_caller; stands = f.found.stands } in
-    let place : f.caller + 0 ≡ f.caller = omega arith in
-    (subst (λ n. IsReached graph n) f.found.leads
-      (elim (or_cases (is_marked (slice_get marks (f.caller + 0))) f.found.call.in_task f.found.counts) [
-        inl marked ↦ through f.caller f.found.call has (sound f.caller (subst (λ n. slice_get marks n ≡ Some true) place (is_true_mark (slice_get marks (f.caller + 0)) marked)))
-        | inr task ↦ from_task f.caller f.found.call has task
-      ]), f.found.open_there)
+    let place : f.caller + 0 ≡ f.caller = omega arith in (
+      subst (λ n. IsReached graph n) f.found.leads
+          (elim (or_cases (is_marked (slice_get marks (f.caller + 0))) f.found.call.in_task f.found.counts) [
+            | inl marked ↦ through f.caller f.found.call has (sound f.caller (subst (λ n. slice_get marks n ≡ Some true) place (is_true_mark (slice_get marks (f.caller + 0)) marked)))
+            | inr task ↦ from_task f.caller f.found.call has task
+          ]),
+      f.found.open_there,
+    )
 
 pub sound_more : (graph : List (List Call)) (marks : List Bool) (callee : ℕ) → IsSound graph marks → IsReached graph callee → IsSound graph (slice_set marks callee true)
 sound_more graph marks callee sound reached = λ k is. elim (eqb_tells callee k) [
-    inl same ↦ subst (λ n. IsReached graph n) same.1 reached
-    | inr other ↦ sound k (sym (get_set_other marks callee k true other.1) ∙ is)
-  ]
+  | inl same ↦ subst (λ n. IsReached graph n) same.1 reached
+  | inr other ↦ sound k (sym (get_set_other marks callee k true other.1) ∙ is)
+]
 
 true_or : (a b : Bool) → a ≡ true → (a || b) ≡ true
 true_or true b h = refl

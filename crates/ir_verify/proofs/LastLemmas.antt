@@ -1,5 +1,5 @@
 -- The last operation of a list.
-use Rattle.std.proofs.Common.{◌≡◌, ℕ, zero, suc, ◌+◌, ◌-◌, ◌<◌, ◌≤◌, List, [], ◌∷◌, length, get_or, refl, sym, ap, ◌∙◌, arith}
+use Rattle.std.proofs.Common.{◌≡◌, ℕ, zero, suc, List, [], ◌∷◌, length, get_or, ap, arith}
 use Rattle.ir_forms.specs.declared.ops.Op.{Op}
 use Rattle.ir_verify.specs.Breaks.{last_form}
 use Rattle.ir_verify.specs.Forms.{form}

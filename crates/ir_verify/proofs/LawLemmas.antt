@@ -1,20 +1,18 @@
 -- The laws of modules that break no rule.
-use Rattle.std.proofs.Common.{◌≡◌, ℕ, zero, suc, ◌+◌, ◌||◌, not, Bool, true, false, List, [], ◌∷◌, Option, Some, None, refl, sym, ap, ◌∙◌, arith, subst, zero-add}
+use Rattle.std.proofs.Common.{◌≡◌, ℕ, zero, suc, ◌+◌, ◌||◌, not, Bool, true, false, List, [], ◌∷◌, Option, Some, None, refl, sym, ap, arith, subst, zero-add}
 use Rattle.std.specs.Prelude.{slice_get}
 use Rattle.std.specs.Option.{is_some}
-use Rattle.ir_forms.specs.declared.ops.Func.{Func}
-use Rattle.ir_forms.specs.declared.ops.ValueNo.{ValueNo}
 use Rattle.ir_forms.specs.declared.types.Ty.{Ty}
-use Rattle.ir_forms.specs.Ops.{operands_of, written_of, regions_of}
+use Rattle.ir_forms.specs.Ops.{operands_of}
 use Rattle.ir_verify.specs.declared.fault.VerifyKind.{VerifyKind}
 use Rattle.ir_verify.specs.declared.fault.VerifyKind.TheVariants.{Undefined, TypeMismatch}
-use Rattle.ir_verify.specs.Breaks.{breaks, number_of, own_breaks, some_from, some_at, operand_breaks, written_breaks, result_breaks, region_breaks, misfits}
+use Rattle.ir_verify.specs.Breaks.{breaks, number_of, own_breaks, some_from, some_at, operand_breaks, misfits}
 use Rattle.ir_verify.specs.Forms.{form}
-use Rattle.ir_verify.specs.Places.{Spot, types_of}
+use Rattle.ir_verify.specs.Places.{Spot}
 use Rattle.ir_verify.specs.Rules.{operand_fits}
 use Rattle.ir_verify.specs.Scopes.{lookup}
-use Rattle.ir_verify.specs.Verdict.{IsSound, at_operation}
-use Rattle.ir_verify.specs.Laws.{Stands, BreaksNothing, Fits, OperandsFit}
+use Rattle.ir_verify.specs.Verdict.{at_operation}
+use Rattle.ir_verify.specs.Laws.{BreaksNothing, Fits, OperandsFit}
 
 pub breaks_nothing : BreaksNothing
 breaks_nothing funcs sound s place kind = step (breaks kind s) refl
@@ -64,7 +62,7 @@ operands_fit funcs sound s place i v at = step (lookup s.seen v.0) refl
     step : (o : Option Ty) → lookup s.seen v.0 ≡ o → Fits s i v
     step None is = let hidden : not (is_some (lookup s.seen v.0)) ≡ true = ap (λ (o : Option Ty). not (is_some o)) is in let seen : not (is_some (lookup s.seen v.0)) ≡ false = visible in cc
     step (Some t) is = record {
-        type = t;
-        visible = is;
-        fits = not_false (operand_fits (form s.place.op) s.place i t) (subst (λ (o : Option Ty). misfits (operand_fits (form s.place.op) s.place i) o ≡ false) is typed)
-      }
+      type = t;
+      visible = is;
+      fits = not_false (operand_fits (form s.place.op) s.place i t) (subst (λ (o : Option Ty). misfits (operand_fits (form s.place.op) s.place i) o ≡ false) is typed);
+    }

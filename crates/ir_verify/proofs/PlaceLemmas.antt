@@ -1,10 +1,10 @@
 -- The equations of the places.
-use Rattle.std.proofs.Common.{◌≡◌, ℕ, ◌+◌, Bool, List, [], ◌∷◌, ◌++◌, map, ap, refl, ◌∙◌, sym}
-use Rattle.ir_forms.specs.declared.ops.Op.{Op, Op-F, out-Op}
+use Rattle.std.proofs.Common.{◌≡◌, ℕ, ◌+◌, Bool, List, [], ◌∷◌, ◌++◌, map, ap, refl, ◌∙◌}
+use Rattle.ir_forms.specs.declared.ops.Op.{Op}
 use Rattle.ir_forms.specs.declared.ops.Op.TheFolds.{fold-Op, fold-Region, fold_out-Op, fold_out-Region}
-use Rattle.ir_forms.specs.declared.ops.Region.{Region, Region-F, out-Region}
+use Rattle.ir_forms.specs.declared.ops.Region.{Region}
 use Rattle.ir_forms.specs.declared.ops.Func.{Func}
-use Rattle.ir_forms.specs.Ops.{kind_of, results_of, regions_of, ops_of, attr_of}
+use Rattle.ir_forms.specs.Ops.{results_of, regions_of, ops_of}
 use Rattle.ir_verify.specs.Places.{Around, Seen, Spot, OfOp, OfRegion, op_step, region_step, of_regions, of_ops, places_at, places_in, places_along, places_held, place_of, within, params_of, defined, types_of, is_none_left}
 
 module _ (funcs : List Func) where

@@ -1,5 +1,5 @@
 -- The faults of a list of places, one operation or region after another.
-use Rattle.std.proofs.Common.{◌≡◌, ℕ, zero, suc, ◌+◌, ◌<◌, ◌≤◌, ◌==◌, Bool, true, false, List, [], ◌∷◌, ◌++◌, length, drop, take, get_or, Option, refl, sym, ap, ◌∙◌, arith, append_assoc, append-nil, add-one}
+use Rattle.std.proofs.Common.{◌≡◌, ℕ, zero, suc, ◌+◌, ◌<◌, ◌≤◌, ◌==◌, Bool, List, [], ◌∷◌, ◌++◌, length, drop, take, get_or, Option, refl, sym, ap, ◌∙◌, arith, append_assoc, append-nil, add-one}
 use Rattle.std.proofs.Math.Seq.{drop-cons}
 use Rattle.std.proofs.lemmas.Bool.Decides.{nat_tests}
 use Rattle.ir_forms.specs.declared.ops.Op.{Op}
@@ -34,7 +34,7 @@ module _ (funcs : List Func) where
   held_next regions region i around op seen best after whole inside at is so_far =
       let front : drop i regions ≡ region ∷ drop (suc i) regions = drop-cons regions i region inside ∙ ap (λ x. x ∷ drop (suc i) regions) (sym at) in
       let split : noted_all (places_held funcs (drop i regions) around op i seen) best ≡ noted_all (places_held funcs (drop (suc i) regions) around op (i + 1) seen) (noted_all (places_in funcs region (within around op i) seen) best) =
-        ap (λ (rest : List Region). noted_all (places_held funcs rest around op i seen) best) front ∙ noted_append (places_in funcs region (within around op i) seen) (places_held funcs (drop (suc i) regions) around op (i + 1) seen) best in
+      ap (λ (rest : List Region). noted_all (places_held funcs rest around op i seen) best) front ∙ noted_append (places_in funcs region (within around op i) seen) (places_held funcs (drop (suc i) regions) around op (i + 1) seen) best in
       rw (is, add-one) (rw add-one at (sym split)) ∙ so_far
 
   pub held_done : (regions : List Region) (i : ℕ) (around : Around) (op : Op) (seen : Seen) (best whole : Option Broken) → length regions ≤ i →
@@ -63,9 +63,9 @@ module _ (funcs : List Func) where
       let front : drop i ops ≡ op ∷ drop (suc i) ops = drop-cons ops i op inside ∙ ap (λ x. x ∷ drop (suc i) ops) (sym at) in
       let ends : last ≡ is_none_left (drop (suc i) ops) = ending ∙ rw add-one (last_of ops i inside) in
       let split : noted_all (places_along funcs (drop i ops) around seen) best
-          ≡ noted_all (places_along funcs (drop (suc i) ops) around (seen ++ defined (results_of op) (types_of op))) (noted_all (places_at funcs op around seen (is_none_left (drop (suc i) ops))) best) =
-        ap (λ (rest : List Op). noted_all (places_along funcs rest around seen) best) front
-        ∙ noted_append (places_at funcs op around seen (is_none_left (drop (suc i) ops))) (places_along funcs (drop (suc i) ops) around (seen ++ defined (results_of op) (types_of op))) best in
+      ≡ noted_all (places_along funcs (drop (suc i) ops) around (seen ++ defined (results_of op) (types_of op))) (noted_all (places_at funcs op around seen (is_none_left (drop (suc i) ops))) best) =
+      ap (λ (rest : List Op). noted_all (places_along funcs rest around seen) best) front
+      ∙ noted_append (places_at funcs op around seen (is_none_left (drop (suc i) ops))) (places_along funcs (drop (suc i) ops) around (seen ++ defined (results_of op) (types_of op))) best in
       rw (is, visible, ends, add-one) (sym split) ∙ so_far
 
   pub along_done : (ops : List Op) (i : ℕ) (around : Around) (seen : Seen) (best whole : Option Broken) → length ops ≤ i →
@@ -97,8 +97,8 @@ module _ (funcs : List Func) where
       let here : List Call = calls_among funcs (places_in funcs region (within around op i) seen) in
       let later : List Call = calls_among funcs (places_held funcs (drop (suc i) regions) around op (i + 1) seen) in
       let split : calls_among funcs (places_held funcs (drop i regions) around op i seen)
-          ≡ calls_among funcs (places_in funcs region (within around op i) seen) ++ calls_among funcs (places_held funcs (drop (suc i) regions) around op (i + 1) seen) =
-        ap (λ (rest : List Region). calls_among funcs (places_held funcs rest around op i seen)) front ∙ calls_append (places_in funcs region (within around op i) seen) (places_held funcs (drop (suc i) regions) around op (i + 1) seen) in
+      ≡ calls_among funcs (places_in funcs region (within around op i) seen) ++ calls_among funcs (places_held funcs (drop (suc i) regions) around op (i + 1) seen) =
+      ap (λ (rest : List Region). calls_among funcs (places_held funcs rest around op i seen)) front ∙ calls_append (places_in funcs region (within around op i) seen) (places_held funcs (drop (suc i) regions) around op (i + 1) seen) in
       rw (is, add-one) (append_assoc calls here (calls_among funcs (places_held funcs (drop (suc i) regions) around op (suc i) seen))) ∙ ap (λ rest. calls ++ rest) (rw add-one at (sym split)) ∙ so_far
 
   pub held_done_calls : (regions : List Region) (i : ℕ) (around : Around) (op : Op) (seen : Seen) (calls whole : List Call) → length regions ≤ i →
@@ -118,8 +118,8 @@ module _ (funcs : List Func) where
       let front : drop i ops ≡ op ∷ drop (suc i) ops = drop-cons ops i op inside ∙ ap (λ x. x ∷ drop (suc i) ops) (sym at) in
       let ends : last ≡ is_none_left (drop (suc i) ops) = ending ∙ rw add-one (last_of funcs ops i inside) in
       let split : calls_among funcs (places_along funcs (drop i ops) around seen)
-          ≡ calls_among funcs (places_at funcs op around seen (is_none_left (drop (suc i) ops))) ++ calls_among funcs (places_along funcs (drop (suc i) ops) around (seen ++ defined (results_of op) (types_of op))) =
-        ap (λ (rest : List Op). calls_among funcs (places_along funcs rest around seen)) front
-        ∙ calls_append (places_at funcs op around seen (is_none_left (drop (suc i) ops))) (places_along funcs (drop (suc i) ops) around (seen ++ defined (results_of op) (types_of op))) in
+      ≡ calls_among funcs (places_at funcs op around seen (is_none_left (drop (suc i) ops))) ++ calls_among funcs (places_along funcs (drop (suc i) ops) around (seen ++ defined (results_of op) (types_of op))) =
+      ap (λ (rest : List Op). calls_among funcs (places_along funcs rest around seen)) front
+      ∙ calls_append (places_at funcs op around seen (is_none_left (drop (suc i) ops))) (places_along funcs (drop (suc i) ops) around (seen ++ defined (results_of op) (types_of op))) in
       rw (is, visible, ends, add-one) (append_assoc calls (calls_among funcs (places_at funcs op around seen (is_none_left (drop (suc i) ops)))) (calls_among funcs (places_along funcs (drop (suc i) ops) around (seen ++ defined (results_of op) (types_of op)))))
       ∙ ap (λ rest. calls ++ rest) (sym split) ∙ so_far

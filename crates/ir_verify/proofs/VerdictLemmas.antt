@@ -1,5 +1,5 @@
 -- The fault that is noted is the first of all that there are.
-use Rattle.std.proofs.Common.{◌≡◌, ◌⊎◌, inl, inr, ℕ, zero, suc, ◌+◌, ◌<◌, ◌≤◌, ◌==◌, nat_lt, ◌&&◌, ◌||◌, not, cond, Bool, true, false, List, [], ◌∷◌, length, map, Option, Some, None, refl, sym, ap, ◌∙◌, arith, subst, zero-add}
+use Rattle.std.proofs.Common.{◌≡◌, ℕ, zero, suc, ◌+◌, ◌<◌, ◌==◌, nat_lt, ◌&&◌, ◌||◌, cond, Bool, true, false, List, [], ◌∷◌, length, map, Option, Some, None, refl, sym, ap, arith, subst, zero-add}
 use Rattle.std.specs.Prelude.{slice_get}
 use Rattle.std.proofs.lemmas.Bool.Decides.{nat_tests}
 use Rattle.std.proofs.lemmas.Option.{slice_get_within}
@@ -8,10 +8,10 @@ use Rattle.ir_verify.specs.declared.fault.Broken.{Broken}
 use Rattle.ir_verify.specs.declared.fault.VerifyKind.{VerifyKind}
 use Rattle.ir_verify.specs.declared.fault.VerifyKind.TheVariants.{Undefined, TypeMismatch, Terminator, UnknownFunc, Arity, AsyncInMemref, BlockingAwait}
 use Rattle.ir_verify.specs.Breaks.{breaks, number_of, noted_kind, noted_spot, noted_all}
-use Rattle.ir_verify.specs.Calls.{AreMarks, IsReached, IsTaskCalled, graph_of, calls_of, is_marked}
+use Rattle.ir_verify.specs.Calls.{AreMarks, graph_of, calls_of, is_marked}
 use Rattle.ir_verify.specs.Faults.{noted, earlier, is_before, rank}
 use Rattle.ir_verify.specs.Places.{Spot}
-use Rattle.ir_verify.specs.Verdict.{func_breaks, noted_head, noted_func, noted_funcs, body_places, IsNoted, Tells, Breaks, at_function, at_operation, IsSound, IsFirst, IsVerdict}
+use Rattle.ir_verify.specs.Verdict.{func_breaks, noted_head, noted_func, noted_funcs, body_places, IsNoted, Tells, Breaks, at_function, at_operation, IsVerdict}
 
 -- ---- the order
 
@@ -99,29 +99,40 @@ fault_at s kind = record { op = number_of s.place.op; kind = kind }
 module _ (s : Spot) (best : Option Broken) where
   abbrev b1 : Option Broken
   b1 = noted_kind Undefined s best
+
   abbrev b2 : Option Broken
   b2 = noted_kind TypeMismatch s b1
+
   abbrev b3 : Option Broken
   b3 = noted_kind Terminator s b2
+
   abbrev b4 : Option Broken
   b4 = noted_kind UnknownFunc s b3
+
   abbrev b5 : Option Broken
   b5 = noted_kind Arity s b4
+
   abbrev b6 : Option Broken
   b6 = noted_kind AsyncInMemref s b5
 
   k1 : (c : Broken) → AtMost best c → AtMost b1 c
   k1 c h = keep_noted best (breaks Undefined s) (fault_at s Undefined) c h
+
   k2 : (c : Broken) → AtMost b1 c → AtMost b2 c
   k2 c h = keep_noted b1 (breaks TypeMismatch s) (fault_at s TypeMismatch) c h
+
   k3 : (c : Broken) → AtMost b2 c → AtMost b3 c
   k3 c h = keep_noted b2 (breaks Terminator s) (fault_at s Terminator) c h
+
   k4 : (c : Broken) → AtMost b3 c → AtMost b4 c
   k4 c h = keep_noted b3 (breaks UnknownFunc s) (fault_at s UnknownFunc) c h
+
   k5 : (c : Broken) → AtMost b4 c → AtMost b5 c
   k5 c h = keep_noted b4 (breaks Arity s) (fault_at s Arity) c h
+
   k6 : (c : Broken) → AtMost b5 c → AtMost b6 c
   k6 c h = keep_noted b5 (breaks AsyncInMemref s) (fault_at s AsyncInMemref) c h
+
   k7 : (c : Broken) → AtMost b6 c → AtMost (noted_spot s best) c
   k7 c h = keep_noted b6 (breaks BlockingAwait s) (fault_at s BlockingAwait) c h
 
@@ -172,6 +183,7 @@ module _ (funcs : List Func) (k : ℕ) (f : Func) (best : Option Broken) where
 
   abbrev h1 : Option Broken
   h1 = noted_head Undefined funcs k f best
+
   abbrev h2 : Option Broken
   h2 = noted_head Terminator funcs k f h1
 
@@ -238,8 +250,8 @@ module _ (funcs : List Func) (marks : List Bool) where
   from_funcs P (f ∷ rest) k best before heads bodies =
       from_funcs P rest (k + 1) (noted_all (places_of k f) (noted_func funcs k f best))
       (from_all P (places_of k f) (noted_func funcs k f best)
-        (from_func funcs k f best P before (λ kind is. heads 0 f kind refl (subst (λ n. func_breaks kind funcs n f ≡ true) (sym (zero-add k)) is)))
-        (λ i s kind stands is. bodies 0 f i s kind refl (subst (λ n. slice_get (places_of n f) i ≡ Some s) (sym (zero-add k)) stands) is))
+      (from_func funcs k f best P before (λ kind is. heads 0 f kind refl (subst (λ n. func_breaks kind funcs n f ≡ true) (sym (zero-add k)) is)))
+      (λ i s kind stands is. bodies 0 f i s kind refl (subst (λ n. slice_get (places_of n f) i ≡ Some s) (sym (zero-add k)) stands) is))
       (λ j g kind at is. heads (suc j) g kind at (let place : j + (k + 1) ≡ suc j + k = omega arith in subst (λ n. func_breaks kind funcs n g ≡ true) place is))
       (λ j g i s kind at stands is. bodies (suc j) g i s kind at (let place : j + (k + 1) ≡ suc j + k = omega arith in subst (λ n. slice_get (places_of n g) i ≡ Some s) place stands) is)
 
@@ -261,10 +273,10 @@ length_mapped f (x ∷ xs) = ap suc (length_mapped f xs)
 
 told : (funcs : List Func) (marks : List Bool) → AreMarks (graph_of funcs) marks → (k : ℕ) (f : Func) → slice_get funcs k ≡ Some f → Tells funcs k (is_marked (slice_get marks k))
 told funcs marks exact k f at = record {
-    sound = λ is. exact.sound k (mark_true (slice_get marks k) is);
-    complete = λ reached. true_mark (slice_get marks k) (exact.complete k reached
-      (let inside : k < length funcs = slice_get_within funcs k f at in let same : length (graph_of funcs) ≡ length funcs = length_mapped (calls_of funcs) funcs in omega arith))
-  }
+  sound = λ is. exact.sound k (mark_true (slice_get marks k) is);
+  complete = λ reached. true_mark (slice_get marks k) (exact.complete k reached
+      (let inside : k < length funcs = slice_get_within funcs k f at in let same : length (graph_of funcs) ≡ length funcs = length_mapped (calls_of funcs) funcs in omega arith));
+}
 
 same_told : (funcs : List Func) (k : ℕ) (a b : Bool) → Tells funcs k a → Tells funcs k b → a ≡ b
 same_told funcs k true true x y = refl
@@ -287,17 +299,17 @@ comes_from funcs marks exact =
     from_funcs funcs marks (Breaks funcs) funcs 0 None (λ g is. cc)
     (λ j f kind at is. let place : j + 0 ≡ j = omega arith in at_function j f kind at (subst (λ n. func_breaks kind funcs n f ≡ true) place is))
     (λ j f i s kind at stands is.
-      let place : j + 0 ≡ j = omega arith in
-      at_operation j f (is_marked (slice_get marks j)) i s kind at (told funcs marks exact j f at) (subst (λ n. slice_get (body_places funcs f (is_marked (slice_get marks n))) i ≡ Some s) place stands) is)
+    let place : j + 0 ≡ j = omega arith in
+    at_operation j f (is_marked (slice_get marks j)) i s kind at (told funcs marks exact j f at) (subst (λ n. slice_get (body_places funcs f (is_marked (slice_get marks n))) i ≡ Some s) place stands) is)
 
 pub verdict_is : (funcs : List Func) (best : Option Broken) → IsNoted funcs best → IsVerdict funcs best
 verdict_is funcs None n = λ c broken. let h : AtMost (noted_funcs funcs n.marks 0 funcs None) c = covered funcs n.marks n.exact c broken in let e : noted_funcs funcs n.marks 0 funcs None ≡ Some h.first = h.is in let is : None ≡ noted_funcs funcs n.marks 0 funcs None = n.is in cc
 verdict_is funcs (Some b) n = record {
-    broken = comes_from funcs n.marks n.exact b (sym n.is);
-    none_before = λ c broken.
+  broken = comes_from funcs n.marks n.exact b (sym n.is);
+  none_before = λ c broken.
       let h : AtMost (noted_funcs funcs n.marks 0 funcs None) c = covered funcs n.marks n.exact c broken in
       let e : noted_funcs funcs n.marks 0 funcs None ≡ Some h.first = h.is in
       let is : Some b ≡ noted_funcs funcs n.marks 0 funcs None = n.is in
       let same : h.first ≡ b = cc in
-      subst (λ (x : Broken). is_before c x ≡ false) same h.after
-  }
+      subst (λ (x : Broken). is_before c x ≡ false) same h.after;
+}

@@ -1,9 +1,9 @@
 -- Which rules an operation breaks in its place: by itself, at an operand, at a written type, at a result, or at one of
 -- its regions.
-use Rattle.std.specs.Prelude.{ℕ, zero, suc, ◌+◌, ◌==◌, ◌&&◌, ◌||◌, not, Bool, true, false, List, [], ◌∷◌, length, Option, Some, None}
+use Rattle.std.specs.Prelude.{ℕ, suc, ◌+◌, ◌==◌, ◌&&◌, ◌||◌, not, Bool, true, false, List, [], ◌∷◌, length, Option, Some, None}
 use Rattle.std.specs.Option.{is_some}
 use Rattle.ir_forms.specs.declared.ops.Op.{Op, out-Op}
-use Rattle.ir_forms.specs.declared.ops.Region.{Region, out-Region}
+use Rattle.ir_forms.specs.declared.ops.Region.{Region}
 use Rattle.ir_forms.specs.declared.ops.Func.{Func}
 use Rattle.ir_forms.specs.declared.ops.ValueNo.{ValueNo}
 use Rattle.ir_forms.specs.declared.types.Ty.{Ty}
@@ -16,7 +16,7 @@ use Rattle.ir_verify.specs.declared.form.Form.TheVariants.{Call, TryCall, If, Aw
 use Rattle.ir_verify.specs.declared.place.Nest.{Nest}
 use Rattle.ir_verify.specs.declared.place.Nest.TheVariants.{InFunction, InTask, InLoop}
 use Rattle.ir_verify.specs.Faults.{noted}
-use Rattle.ir_verify.specs.Places.{Around, Place, Spot, Seen, types_of, params_of}
+use Rattle.ir_verify.specs.Places.{Place, Spot, Seen, types_of, params_of}
 use Rattle.ir_verify.specs.Forms.{form, regions_asked, end_asked, ends, is_ending}
 use Rattle.ir_verify.specs.Scopes.{lookup}
 use Rattle.ir_verify.specs.Types.{has_async_cells}

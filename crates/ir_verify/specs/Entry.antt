@@ -3,7 +3,7 @@ use Rattle.std.specs.Str.{bytes_eq}
 use Rattle.ir_forms.specs.declared.runs.FuncNo.{FuncNo}
 use Rattle.ir_verify.specs.declared.entry.EntryFault.{EntryFault}
 use Rattle.ir_verify.specs.declared.entry.EntryFault.TheVariants.{NoEntry, EntryType}
-use Rattle.std.specs.Prelude.{ℕ, ◌+◌, Result, Ok, Err, ◌||◌, Bool, true, false, List, [], ◌∷◌, Option, Some, None, slice_get, if◌then◌else◌}
+use Rattle.std.specs.Prelude.{ℕ, ◌+◌, Result, Ok, Err, ◌||◌, Bool, true, false, List, [], ◌∷◌, if◌then◌else◌}
 use Rattle.ir_forms.specs.declared.ops.Func.{Func}
 use Rattle.ir_forms.specs.declared.ops.ValueNo.{ValueNo}
 use Rattle.ir_forms.specs.declared.types.Ty.{Ty}

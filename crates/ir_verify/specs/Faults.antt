@@ -1,5 +1,5 @@
 -- Faults and their order.
-use Rattle.std.specs.Prelude.{ℕ, ◌==◌, nat_lt, ◌&&◌, ◌||◌, Bool, cond, List, [], ◌∷◌, Option, Some, None}
+use Rattle.std.specs.Prelude.{ℕ, ◌==◌, nat_lt, ◌&&◌, ◌||◌, Bool, cond, Option, Some, None}
 use Rattle.ir_verify.specs.declared.fault.VerifyKind.{VerifyKind}
 use Rattle.ir_verify.specs.declared.fault.VerifyKind.TheVariants.{Undefined, TypeMismatch, Terminator, UnknownFunc, Arity, AsyncInMemref, BlockingAwait}
 use Rattle.ir_verify.specs.declared.fault.Broken.{Broken}

@@ -1,5 +1,5 @@
 -- The forms of operations: operations of one form have the same rules.
-use Rattle.std.specs.Prelude.{ℕ, zero, suc, Bool, true, false, List, [], ◌∷◌, Option, Some, None}
+use Rattle.std.specs.Prelude.{ℕ, zero, suc, Bool, true, false}
 use Rattle.op_table.specs.declared.kind.OpKind.{OpKind}
 use Rattle.op_table.specs.declared.kind.OpKind.TheVariants as op
 use Rattle.ir_forms.specs.declared.ops.Op.{Op}

@@ -2,7 +2,7 @@
 use Rattle.std.specs.Option.{unwrap_or}
 use Rattle.std.specs.Prelude.{ℕ, ◌+◌, slice_get, Bool, true, false, List, [], ◌∷◌, ◌++◌, Option, Some, None}
 use Rattle.op_table.specs.declared.kind.OpKind.{OpKind}
-use Rattle.op_table.specs.declared.kind.OpKind.TheVariants.{AsyncExecute, ScfParallel, FuncCall, AioTryCall}
+use Rattle.op_table.specs.declared.kind.OpKind.TheVariants.{AsyncExecute, ScfParallel}
 use Rattle.ir_forms.specs.declared.ops.Op.{Op, Op-F, out-Op}
 use Rattle.ir_forms.specs.declared.ops.Op.TheFolds.{fold-Op}
 use Rattle.ir_forms.specs.declared.ops.Region.{Region, Region-F, out-Region}

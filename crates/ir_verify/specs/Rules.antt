@@ -1,23 +1,18 @@
 -- What the verifier asks of an operation in its place, list by list: of its operands, its written types, the types of
 -- its results, and the parameters of its regions.
-use Rattle.std.specs.Prelude.{ℕ, zero, suc, ◌+◌, ◌-◌, ◌*◌, ◌==◌, nat_lt, nat_le, max, ◌&&◌, ◌||◌, not, if◌then◌else◌, Bool, true, false, List, [], ◌∷◌, length, map, Option, Some, None, slice_get, slice_index}
-use Rattle.std.specs.Option.{option_map, is_some, unwrap_or}
-use Rattle.op_table.specs.declared.kind.OpKind.{OpKind}
+use Rattle.std.specs.Prelude.{ℕ, zero, suc, ◌+◌, ◌-◌, ◌*◌, ◌==◌, nat_lt, nat_le, max, ◌&&◌, ◌||◌, not, if◌then◌else◌, Bool, true, false, List, [], ◌∷◌, length, Option, Some, None, slice_get}
+use Rattle.std.specs.Option.{option_map, unwrap_or}
 use Rattle.ir_forms.specs.declared.ops.Op.{Op, out-Op}
-use Rattle.ir_forms.specs.declared.ops.Region.{Region, out-Region}
+use Rattle.ir_forms.specs.declared.ops.Region.{Region}
 use Rattle.ir_forms.specs.declared.ops.Func.{Func}
-use Rattle.ir_forms.specs.declared.ops.ValueNo.{ValueNo}
 use Rattle.ir_forms.specs.declared.types.Ty.{Ty}
 use Rattle.ir_forms.specs.declared.types.Ty.TheVariants.{Untyped}
-use Rattle.ir_forms.specs.Ops.{kind_of, operands_of, written_of, results_of, regions_of, ops_of, attr_of}
+use Rattle.ir_forms.specs.Ops.{written_of, regions_of, attr_of}
 use Rattle.ir_verify.specs.declared.form.Form.{Form}
-use Rattle.ir_verify.specs.declared.form.Form.TheVariants.{Binary, Compare, Select, Extend, Truncate, IndexCast, Constant, Assert, Call, TryCall, Return, For, If, While, Condition, Parallel, Reduce, Yield, Alloc, Dealloc, Load, Store, Dim, Execute, TaskYield, Await, AwaitAll, CreateGroup, AddToGroup, Other}
-use Rattle.ir_verify.specs.declared.place.Nest.{Nest}
-use Rattle.ir_verify.specs.declared.place.Nest.TheVariants.{InFunction, InTask, InLoop}
+use Rattle.ir_verify.specs.declared.form.Form.TheVariants.{Binary, Compare, Select, Extend, Truncate, IndexCast, Constant, Assert, Call, TryCall, Return, For, If, While, Condition, Parallel, Yield, Alloc, Dealloc, Load, Store, Dim, Execute, TaskYield, Await, AwaitAll, CreateGroup, AddToGroup}
 use Rattle.ir_verify.specs.Places.{Around, Place, Seen, types_of, params_of}
-use Rattle.ir_verify.specs.Forms.{form, form_of, regions_asked, end_asked, ends, is_ending}
-use Rattle.ir_verify.specs.Scopes.{lookup}
-use Rattle.ir_verify.specs.Types.{same_type, holds, is_element, is_number, is_truth, is_index, is_memref, is_token, is_value, is_group, is_awaitable, dims_of, open_dims, has_async_cells, extends, truncates, casts_index, literal_fits}
+use Rattle.ir_verify.specs.Forms.{form, end_asked, ends}
+use Rattle.ir_verify.specs.Types.{same_type, holds, is_element, is_number, is_truth, is_index, is_memref, is_token, is_value, is_group, is_awaitable, dims_of, open_dims, extends, truncates, casts_index, literal_fits}
 
 -- ---- words
 

@@ -1,5 +1,5 @@
 -- What the verifier asks of one type.
-use Rattle.std.specs.Prelude.{ℕ, ◌-◌, ◌^◌, ◌==◌, count_by, nat_lt, nat_le, ◌&&◌, ◌||◌, not, Bool, true, false, List, [], ◌∷◌, Option, Some, None}
+use Rattle.std.specs.Prelude.{ℕ, ◌-◌, ◌^◌, ◌==◌, count_by, nat_lt, nat_le, ◌&&◌, Bool, true, false, List, [], ◌∷◌}
 use Rattle.int_ops.specs.Arithmetic.{bits_of}
 use Rattle.int_ops.specs.declared.Width.{Width}
 use Rattle.int_ops.specs.declared.Width.TheVariants.{W1}

@@ -9,7 +9,7 @@ use Rattle.op_table.specs.declared.rows.Level.TheVariants.{Source, Split}
 use Rattle.ir_verify.specs.declared.calls.Call.{Call}
 use Rattle.ir_verify.specs.declared.fault.Broken.{Broken}
 use Rattle.ir_verify.specs.declared.fault.VerifyKind.{VerifyKind}
-use Rattle.ir_verify.specs.declared.fault.VerifyKind.TheVariants.{Undefined, TypeMismatch, Terminator, UnknownFunc, Arity, AsyncInMemref, BlockingAwait}
+use Rattle.ir_verify.specs.declared.fault.VerifyKind.TheVariants.{Undefined, Terminator, AsyncInMemref}
 use Rattle.ir_verify.specs.declared.form.Form.TheVariants.{Return}
 use Rattle.ir_verify.specs.Breaks.{some_at, breaks, lacks_end, number_of, noted_all}
 use Rattle.ir_verify.specs.Calls.{AreMarks, IsTaskCalled, graph_of, is_marked}

@@ -10,7 +10,10 @@ ghost use Rattle.ir_verify.specs.Sites.{place_at};
 use crate::fault::{Broken, VerifyKind, noted};
 use crate::form::Form;
 use crate::place::Nest;
-use crate::rules::{groups_fit, is_in_place, operand_fits, operands_counted, param_fits, params_fit, result_fits, types_asked, written_asked, written_fits};
+use crate::rules::{
+    groups_fit, is_in_place, operand_fits, operands_counted, param_fits, params_fit, result_fits,
+    types_asked, written_asked, written_fits,
+};
 use crate::scope::Scope;
 use crate::site::Site;
 use crate::types::has_async_cells;
@@ -22,7 +25,13 @@ fn form_of(op: &Op) -> Form
     Form::of(op.kind)
 }
 
-fn operand_breaks(kind: VerifyKind, scope: &Scope, site: &Site, place: usize, value: ValueNo) -> bool
+fn operand_breaks(
+    kind: VerifyKind,
+    scope: &Scope,
+    site: &Site,
+    place: usize,
+    value: ValueNo,
+) -> bool
     ensures { result ≡ operand_breaks kind scope.now (place_at site.now) place value }
 {
     match kind {
@@ -56,7 +65,13 @@ fn result_breaks(kind: VerifyKind, site: &Site, place: usize, t: &Ty) -> bool
     }
 }
 
-fn param_breaks(kind: VerifyKind, op: &Op, region: usize, place: usize, param: &(ValueNo, Ty)) -> bool
+fn param_breaks(
+    kind: VerifyKind,
+    op: &Op,
+    region: usize,
+    place: usize,
+    param: &(ValueNo, Ty),
+) -> bool
     ensures { result ≡ param_breaks kind op.now region place param.now }
 {
     match kind {

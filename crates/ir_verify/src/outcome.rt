@@ -23,7 +23,11 @@ pub enum VerifyFault {
 }
 
 #[tactic(auto, using(crate::proofs::VerdictLemmas::verdict_is))]
-fn verdict<'a>(alloc: Global, untyped: &'a Ty, funcs: &'a [Func]) -> Result<(Option<Broken>, Level), AllocError>
+fn verdict<'a>(
+    alloc: Global,
+    untyped: &'a Ty,
+    funcs: &'a [Func],
+) -> Result<(Option<Broken>, Level), AllocError>
     requires { untyped.now ≡ Untyped }
     ensures fault { IfOk result (λ r. IsVerdict funcs.now r.0) }
     ensures level { IfOk result (λ r. r.1 ≡ level_of funcs.now) }

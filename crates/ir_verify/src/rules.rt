@@ -10,7 +10,10 @@ ghost use Rattle.ir_verify.specs.Rules.{first_type, is_asked, is_held, group, gr
 
 use crate::form::Form;
 use crate::site::{Scene, Site};
-use crate::types::{casts_index, extends, holds, is_awaitable, is_element, is_group, is_index, is_memref, is_number, is_token, is_truth, is_value, literal_fits, open_rank, rank, same_type, truncates};
+use crate::types::{
+    casts_index, extends, holds, is_awaitable, is_element, is_group, is_index, is_memref,
+    is_number, is_token, is_truth, is_value, literal_fits, open_rank, rank, same_type, truncates,
+};
 use ir_forms::{Func, Op, Ty};
 use lists::Items;
 
@@ -518,13 +521,7 @@ pub(crate) fn types_asked(site: &Site) -> usize
         Form::Call => result_length(site.callee, op.types.len()),
         Form::For | Form::If | Form::While => op.types.len(),
         Form::Execute => op.types.len().max(1),
-        Form::Await => {
-            if first_is_value(&op.written) {
-                1
-            } else {
-                0
-            }
-        }
+        Form::Await => { if first_is_value(&op.written) { 1 } else { 0 } }
         _ => 0,
     }
 }

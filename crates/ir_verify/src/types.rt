@@ -273,8 +273,20 @@ pub(crate) fn literal_fits(attr: &Attr, t: &Ty) -> bool
     ensures { result ≡ literal_fits attr.now t.now }
 {
     match (attr, t) {
-        (Attr::Literal { negative, magnitude }, Ty::Int(width)) => fits_width(*width, *negative, *magnitude),
-        (Attr::Literal { negative, magnitude }, Ty::Index) => fits_width(Width::W64, *negative, *magnitude),
+        (
+            Attr::Literal {
+                negative,
+                magnitude,
+            },
+            Ty::Int(width),
+        ) => fits_width(*width, *negative, *magnitude),
+        (
+            Attr::Literal {
+                negative,
+                magnitude,
+            },
+            Ty::Index,
+        ) => fits_width(Width::W64, *negative, *magnitude),
         (Attr::Truth(_), _) => is_truth(t),
         _ => false,
     }

@@ -63,7 +63,13 @@ fn func_breaks(kind: VerifyKind, names: &Names, place: usize, func: &Func) -> bo
     }
 }
 
-fn noted_head(kind: VerifyKind, names: &Names, place: usize, func: &Func, best: Option<Broken>) -> Option<Broken>
+fn noted_head(
+    kind: VerifyKind,
+    names: &Names,
+    place: usize,
+    func: &Func,
+    best: Option<Broken>,
+) -> Option<Broken>
     ensures { result ≡ noted_head kind names.now place func.now best }
 {
     let is_broken = func_breaks(kind, names, place, func);
@@ -79,7 +85,12 @@ fn noted_func(names: &Names, place: usize, func: &Func, best: Option<Broken>) ->
 }
 
 /// The calls of each function.
-fn graph_of<'a>(alloc: Global, names: &Names<'a>, untyped: &'a Ty, funcs: &'a [Func]) -> Result<Vec<Items<Call>>, AllocError>
+fn graph_of<'a>(
+    alloc: Global,
+    names: &Names<'a>,
+    untyped: &'a Ty,
+    funcs: &'a [Func],
+) -> Result<Vec<Items<Call>>, AllocError>
     requires typed { untyped.now ≡ Untyped }
     requires named { names.now ≡ funcs.now }
     ensures { IfOk result (λ graph. graph.items ≡ graph_of funcs.now) }
@@ -93,7 +104,13 @@ fn graph_of<'a>(alloc: Global, names: &Names<'a>, untyped: &'a Ty, funcs: &'a [F
 }
 
 /// The earliest fault of the functions.
-fn noted_funcs<'a>(alloc: Global, names: &Names<'a>, untyped: &'a Ty, funcs: &'a [Func], marks: &[bool]) -> Result<Option<Broken>, AllocError>
+fn noted_funcs<'a>(
+    alloc: Global,
+    names: &Names<'a>,
+    untyped: &'a Ty,
+    funcs: &'a [Func],
+    marks: &[bool],
+) -> Result<Option<Broken>, AllocError>
     requires typed { untyped.now ≡ Untyped }
     requires named { names.now ≡ funcs.now }
     ensures { IfOk result (λ best. best ≡ noted_funcs funcs.now marks.now 0 funcs.now None) }
@@ -132,7 +149,11 @@ fn some_func_tries(graph: &[Items<Call>]) -> bool
 }
 
 /// The earliest fault of a module's functions, if there is one, and their level.
-pub(crate) fn judge<'a>(alloc: Global, untyped: &'a Ty, funcs: &'a [Func]) -> Result<(Option<Broken>, Level), AllocError>
+pub(crate) fn judge<'a>(
+    alloc: Global,
+    untyped: &'a Ty,
+    funcs: &'a [Func],
+) -> Result<(Option<Broken>, Level), AllocError>
     requires { untyped.now ≡ Untyped }
     ensures fault { IfOk result (λ r. IsNoted funcs.now r.0) }
     ensures level { IfOk result (λ r. r.1 ≡ level_of funcs.now) }

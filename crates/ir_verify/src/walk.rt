@@ -29,7 +29,12 @@ pub(crate) struct Walk<'a> {
 
 /// Makes the results of an operation visible. One that has no type is untyped.
 #[tactic(auto, using(crate::proofs::WalkLemmas::defined_next))]
-fn define<'a>(scope: &mut Scope<'a>, untyped: &'a Ty, values: &[ValueNo], types: &'a Items<Ty>) -> Result<(), AllocError>
+fn define<'a>(
+    scope: &mut Scope<'a>,
+    untyped: &'a Ty,
+    values: &[ValueNo],
+    types: &'a Items<Ty>,
+) -> Result<(), AllocError>
     requires { untyped.now ≡ Untyped }
     ensures { OnOk result (scope.new ≡ scope.old ++ defined values.now types.now) }
 {
@@ -76,7 +81,14 @@ fn note_call(calls: &mut Vec<Call>, names: &Names, op: &Op, nest: Nest) -> Resul
 impl<'a> Walk<'a> {
     /// Counts the faults of an operation and of what stands in it, and makes its results visible.
     #[cycle(walk)]
-    fn walk_op(&mut self, names: &Names<'a>, untyped: &'a Ty, op: &'a Op, scene: &Scene<'a>, is_last: bool) -> Result<(), AllocError>
+    fn walk_op(
+        &mut self,
+        names: &Names<'a>,
+        untyped: &'a Ty,
+        op: &'a Op,
+        scene: &Scene<'a>,
+        is_last: bool,
+    ) -> Result<(), AllocError>
         requires { untyped.now ≡ Untyped }
         ensures seen { OnOk result (self.new.scope ≡ self.old.scope ++ defined (results_of op.now) (types_of op.now)) }
         ensures calls { OnOk result (self.new.calls.items ≡ self.old.calls.items ++ calls_among names.now (places_at names.now op.now (around_of scene.now) self.old.scope is_last)) }
@@ -99,7 +111,13 @@ impl<'a> Walk<'a> {
 
     /// Counts the faults of what stands in a region. Afterwards the same is visible as before.
     #[cycle(walk)]
-    pub(crate) fn walk_region(&mut self, names: &Names<'a>, untyped: &'a Ty, region: &'a Region, scene: &Scene<'a>) -> Result<(), AllocError>
+    pub(crate) fn walk_region(
+        &mut self,
+        names: &Names<'a>,
+        untyped: &'a Ty,
+        region: &'a Region,
+        scene: &Scene<'a>,
+    ) -> Result<(), AllocError>
         requires { untyped.now ≡ Untyped }
         ensures seen { OnOk result (self.new.scope ≡ self.old.scope) }
         ensures calls { OnOk result (self.new.calls.items ≡ self.old.calls.items ++ calls_among names.now (places_in names.now region.now (around_of scene.now) self.old.scope)) }

@@ -1,4 +1,4 @@
-use Rattle.std.proofs.Common.{◌≡◌, ℕ, suc, ◌-◌, length, arith, ◌∙◌}
+use Rattle.std.proofs.Common.{◌≡◌, suc, ◌-◌, length, arith, ◌∙◌}
 use Rattle.ir_verify.proofs.LastLemmas.{last_at}
 use Rattle.ir_verify.proofs.breaks.last_form.Goals as goal
 

@@ -1,6 +1,5 @@
 use Rattle.std.proofs.Common.{◌≡◌, drop}
 use Rattle.ir_verify.specs.Breaks.{some_from, some_at, region_breaks}
-
 use Rattle.ir_verify.proofs.breaks.some_region.Given as goal
 
 abbrev pub invariant-loop-place : goal.invariant-loop-place

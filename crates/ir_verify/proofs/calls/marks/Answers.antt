@@ -1,8 +1,7 @@
 -- Each turn marks one function more that a task calls.
-use Rattle.std.proofs.Common.{◌≡◌, ◌<◌, ℕ, Bool, true, length, Some, None, vec_len, slice_set, arith, sym, ◌∙◌, ap, rules}
+use Rattle.std.proofs.Common.{◌≡◌, ◌<◌, true, length, Some, None, ◌∙◌, rules}
 use Rattle.std.proofs.Math.ListN.{length-set}
-use Rattle.std.specs.Prelude.{slice_get}
-use Rattle.ir_verify.specs.Calls.{IsReached, open_from, is_unmarked, AreMarks}
+use Rattle.ir_verify.specs.Calls.{open_from}
 use Rattle.ir_verify.proofs.CallLemmas.{open_reached, unmarked_within, marked_more, sound_more, all_marked}
 use Rattle.ir_verify.proofs.calls.marks.Goals as goal
 
@@ -22,7 +21,7 @@ loop-place-preserved c =
     let found : open_from c.loop-place.marks.items 0 c.args.graph.now ≡ Some c.in-Some.place = cc in
     record {
       each = length-set c.loop-place.marks.items c.in-Some.place true ∙ c.loop-place.invariant.each;
-      sound = sound_more c.args.graph.now c.loop-place.marks.items c.in-Some.place c.loop-place.invariant.sound (open_reached c.args.graph.now c.loop-place.marks.items c.in-Some.place c.loop-place.invariant.sound found).0
+      sound = sound_more c.args.graph.now c.loop-place.marks.items c.in-Some.place c.loop-place.invariant.sound (open_reached c.args.graph.now c.loop-place.marks.items c.in-Some.place c.loop-place.invariant.sound found).0;
     }
 
 pub returns : goal.returns

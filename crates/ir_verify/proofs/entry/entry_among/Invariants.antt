@@ -1,5 +1,4 @@
 use Rattle.std.proofs.Common.{◌≡◌, drop}
-use Rattle.ir_verify.specs.Breaks.{some_from, some_at}
 use Rattle.ir_verify.specs.Entry.{entry_from}
 use Rattle.ir_verify.proofs.entry.entry_among.Given as goal
 

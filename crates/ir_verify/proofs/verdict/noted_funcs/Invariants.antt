@@ -1,5 +1,4 @@
 use Rattle.std.proofs.Common.{◌≡◌, drop, None}
-use Rattle.ir_verify.specs.Breaks.{some_from, some_at}
 use Rattle.ir_verify.specs.Verdict.{noted_funcs}
 use Rattle.ir_verify.proofs.verdict.noted_funcs.Given as goal
 

@@ -1,4 +1,4 @@
-use Rattle.std.proofs.Common.{◌≡◌, drop, None}
+use Rattle.std.proofs.Common.{◌≡◌, drop}
 use Rattle.ir_verify.specs.Breaks.{some_from, some_at}
 use Rattle.ir_verify.specs.Verdict.{func_tries}
 use Rattle.ir_verify.proofs.verdict.some_func_tries.Given as goal

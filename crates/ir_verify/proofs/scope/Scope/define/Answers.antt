@@ -1,9 +1,6 @@
 -- The slot of a new value holds its place.
-use Rattle.std.proofs.Common.{◌≡◌, ℕ, length, Bool, true, false, Bor, rules}
-use Rattle.std.specs.Option.{is_some}
-use Rattle.ir_forms.specs.declared.ops.ValueNo.{ValueNo}
+use Rattle.std.proofs.Common.{Bor, rules}
 use Rattle.ir_forms.specs.declared.types.Ty.{Ty}
-use Rattle.ir_verify.specs.Scopes.{lookup}
 use Rattle.ir_verify.proofs.ScopeLemmas.{new_indexed, old_indexed}
 use Rattle.ir_verify.proofs.scope.Scope.define.Goals as goal
 

@@ -1,6 +1,5 @@
 -- The slot of a number leads to its first definition.
-use Rattle.std.proofs.Common.{◌≡◌, ◌==◌, ℕ, Bool, true, false, List, Some, None, Bor, sym, ◌∙◌, refl, ap, subst, eq-eqb, slice_get}
-use Rattle.ir_forms.specs.declared.ops.ValueNo.{ValueNo}
+use Rattle.std.proofs.Common.{◌≡◌, ◌==◌, true, false, Some, None, Bor, sym, subst, eq-eqb, slice_get}
 use Rattle.ir_forms.specs.declared.types.Ty.{Ty}
 use Rattle.ir_verify.specs.Scopes.{lookup}
 use Rattle.ir_verify.proofs.scope.Scope.get.Goals as goal
