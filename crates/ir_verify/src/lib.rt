@@ -14,6 +14,8 @@ mod place;
 mod rules;
 mod scope;
 mod site;
+#[cfg(test)]
+mod tests;
 mod types;
 mod verdict;
 mod verified;
