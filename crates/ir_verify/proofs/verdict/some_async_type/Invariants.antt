@@ -1,0 +1,7 @@
+use Rattle.std.proofs.Common.{◌≡◌, drop}
+use Rattle.ir_verify.specs.Breaks.{some_from, some_at}
+use Rattle.ir_verify.specs.Verdict.{type_has_async}
+use Rattle.ir_verify.proofs.verdict.some_async_type.Given as goal
+
+abbrev pub invariant-loop-place : goal.invariant-loop-place
+invariant-loop-place l = some_from type_has_async l.place (drop l.place l.types) ≡ some_at type_has_async l.types

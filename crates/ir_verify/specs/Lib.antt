@@ -1,0 +1,15 @@
+pub mod Answer
+pub mod Breaks
+pub mod Entry
+pub mod Calls
+pub mod Faults
+pub mod Forms
+pub mod Laws
+pub mod Names
+pub mod Places
+pub mod Rules
+pub mod Scopes
+pub mod Sites
+pub mod Types
+pub mod Verdict
+pub mod Verified

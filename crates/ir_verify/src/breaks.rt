@@ -1,0 +1,279 @@
+//! Which rules an operation breaks in its place.
+ghost use Rattle.std.specs.Prelude.{◌≡◌, ◌-◌, ◌<◌, ◌^◌, length};
+ghost use Rattle.ir_forms.specs.Ops.{operands_of, written_of, regions_of, ops_of};
+ghost use Rattle.ir_verify.specs.Breaks.{some_at, operand_breaks, written_breaks, result_breaks, param_breaks, last_form, lacks_end, may_be_empty, region_breaks, is_other, is_call, is_await, would_block, miscounts, has_results, tries_results, own_breaks, breaks, noted_kind, noted_spot};
+ghost use Rattle.std.specs.Option.{option_copied};
+ghost use Rattle.ir_verify.specs.Forms.{form};
+ghost use Rattle.ir_verify.specs.Places.{types_of, params_of};
+ghost use Rattle.ir_verify.specs.Sites.{place_at};
+
+use crate::fault::{Broken, VerifyKind, noted};
+use crate::form::Form;
+use crate::place::Nest;
+use crate::rules::{
+    groups_fit, is_in_place, operand_fits, operands_counted, param_fits, params_fit, result_fits,
+    types_asked, written_asked, written_fits,
+};
+use crate::scope::Scope;
+use crate::site::Site;
+use crate::types::has_async_cells;
+use ir_forms::{Func, Op, Region, Ty, ValueNo};
+
+fn form_of(op: &Op) -> Form
+    ensures { result ≡ form op.now }
+{
+    Form::of(op.kind)
+}
+
+fn operand_breaks(
+    kind: VerifyKind,
+    scope: &Scope,
+    site: &Site,
+    place: usize,
+    value: ValueNo,
+) -> bool
+    ensures { result ≡ operand_breaks kind scope.now (place_at site.now) place value }
+{
+    match kind {
+        VerifyKind::Undefined => !scope.has(value),
+        VerifyKind::TypeMismatch => match scope.get(value) {
+            Some(t) => !operand_fits(site, place, t),
+            None => false,
+        },
+        _ => false,
+    }
+}
+
+fn written_breaks(kind: VerifyKind, site: &Site, place: usize, t: &Ty) -> bool
+    requires { place < 2 ^ 64 - 1 }
+    ensures { result ≡ written_breaks kind (place_at site.now) place t.now }
+{
+    match kind {
+        VerifyKind::TypeMismatch => !written_fits(site, place, t),
+        VerifyKind::AsyncInMemref => has_async_cells(t),
+        _ => false,
+    }
+}
+
+fn result_breaks(kind: VerifyKind, site: &Site, place: usize, t: &Ty) -> bool
+    ensures { result ≡ result_breaks kind (place_at site.now) place t.now }
+{
+    match kind {
+        VerifyKind::TypeMismatch => !result_fits(site, place, t),
+        VerifyKind::AsyncInMemref => has_async_cells(t),
+        _ => false,
+    }
+}
+
+fn param_breaks(
+    kind: VerifyKind,
+    op: &Op,
+    region: usize,
+    place: usize,
+    param: &(ValueNo, Ty),
+) -> bool
+    ensures { result ≡ param_breaks kind op.now region place param.now }
+{
+    match kind {
+        VerifyKind::TypeMismatch => !param_fits(op, region, place, &param.1),
+        VerifyKind::AsyncInMemref => has_async_cells(&param.1),
+        _ => false,
+    }
+}
+
+fn some_param(kind: VerifyKind, op: &Op, region: usize, params: &[(ValueNo, Ty)]) -> bool
+    ensures { result ≡ some_at (param_breaks kind op.now region) params.now }
+{
+    for (place, param) in params.iter().enumerate() {
+        if param_breaks(kind, op, region, place, param) {
+            return true;
+        }
+    }
+    false
+}
+
+fn some_operand(kind: VerifyKind, scope: &Scope, site: &Site) -> bool
+    ensures { result ≡ some_at (operand_breaks kind scope.now (place_at site.now)) (operands_of site.now.op.now) }
+{
+    let values = site.op.operands.as_slice();
+    for (place, value) in values.iter().enumerate() {
+        if operand_breaks(kind, scope, site, place, *value) {
+            return true;
+        }
+    }
+    false
+}
+
+fn some_written(kind: VerifyKind, site: &Site) -> bool
+    ensures { result ≡ some_at (written_breaks kind (place_at site.now)) (written_of site.now.op.now) }
+{
+    let types = site.op.written.as_slice();
+    for (place, t) in types.iter().enumerate() {
+        if written_breaks(kind, site, place, t) {
+            return true;
+        }
+    }
+    false
+}
+
+fn some_result(kind: VerifyKind, site: &Site) -> bool
+    ensures { result ≡ some_at (result_breaks kind (place_at site.now)) (types_of site.now.op.now) }
+{
+    let types = site.op.types.as_slice();
+    for (place, t) in types.iter().enumerate() {
+        if result_breaks(kind, site, place, t) {
+            return true;
+        }
+    }
+    false
+}
+
+/// The form of the last operation.
+fn last_form(ops: &[Op]) -> Form
+    ensures { result ≡ last_form ops.now }
+{
+    match ops {
+        [] => Form::Other,
+        [.., op] => form_of(op),
+    }
+}
+
+/// Whether the operations don't end as is asked.
+pub(crate) fn lacks_end(asked: Form, ops: &[Op]) -> bool
+    ensures { result ≡ lacks_end asked ops.now }
+{
+    asked.is_ending() && !asked.ends(last_form(ops))
+}
+
+/// Whether a region may have no operations: the second one of a branch without results.
+fn may_be_empty(form: Form, region: usize, types: &[Ty], ops: &[Op]) -> bool
+    ensures { result ≡ may_be_empty form region types.now ops.now }
+{
+    match form {
+        Form::If => region > 0 && types.is_empty() && ops.is_empty(),
+        _ => false,
+    }
+}
+
+fn region_breaks(kind: VerifyKind, op: &Op, place: usize, region: &Region) -> bool
+    ensures { result ≡ region_breaks kind op.now place region.now }
+{
+    let form = form_of(op);
+    let ops = region.ops.as_slice();
+    match kind {
+        VerifyKind::Terminator => {
+            !may_be_empty(form, place, op.types.as_slice(), ops)
+                && lacks_end(form.end_asked(place), ops)
+        }
+        VerifyKind::Arity => !params_fit(op, place, region.params.len()),
+        VerifyKind::TypeMismatch | VerifyKind::AsyncInMemref => {
+            some_param(kind, op, place, region.params.as_slice())
+        }
+        _ => false,
+    }
+}
+
+fn some_region(kind: VerifyKind, op: &Op) -> bool
+    ensures { result ≡ some_at (region_breaks kind op.now) (regions_of op.now) }
+{
+    let regions = op.regions.as_slice();
+    for (place, region) in regions.iter().enumerate() {
+        if region_breaks(kind, op, place, region) {
+            return true;
+        }
+    }
+    false
+}
+
+pub(crate) fn is_call(form: Form) -> bool
+    ensures { result ≡ is_call form }
+{
+    matches!(form, Form::Call | Form::TryCall)
+}
+
+fn is_await(form: Form) -> bool
+    ensures { result ≡ is_await form }
+{
+    matches!(form, Form::Await | Form::AwaitAll)
+}
+
+/// Whether an await would block a worker.
+fn would_block(nest: Nest, is_called: bool) -> bool
+    ensures { result ≡ would_block nest is_called }
+{
+    match nest {
+        Nest::InTask => false,
+        Nest::InLoop => true,
+        Nest::InFunction => is_called,
+    }
+}
+
+/// Whether a list of the operation has another length than is asked.
+fn miscounts(site: &Site) -> bool
+    ensures { result ≡ miscounts (place_at site.now) }
+{
+    let op = site.op;
+    !operands_counted(site)
+        || op.written.len() != written_asked(site)
+        || op.types.len() != types_asked(site)
+        || op.results.len() != op.types.len()
+        || op.regions.len() != form_of(op).regions_asked()
+        || !groups_fit(op)
+}
+
+fn tries_results(form: Form, callee: Option<&Func>) -> bool
+    ensures { result ≡ tries_results form (option_copied callee.entry) }
+{
+    match callee {
+        Some(func) if matches!(form, Form::TryCall) => func.results.len() != 0,
+        _ => false,
+    }
+}
+
+fn own_breaks(kind: VerifyKind, site: &Site) -> bool
+    ensures { result ≡ own_breaks kind (place_at site.now) }
+{
+    let form = form_of(site.op);
+    match kind {
+        VerifyKind::TypeMismatch => matches!(form, Form::Other),
+        VerifyKind::Terminator => form.is_ending() && !is_in_place(site),
+        VerifyKind::UnknownFunc => is_call(form) && site.callee.is_none(),
+        VerifyKind::Arity => miscounts(site) || tries_results(form, site.callee),
+        VerifyKind::BlockingAwait => {
+            is_await(form) && would_block(site.scene.nest, site.scene.is_called)
+        }
+        VerifyKind::Undefined | VerifyKind::AsyncInMemref => false,
+    }
+}
+
+/// Whether the operation breaks the rule of a kind: by itself, at an operand, at a written type, at
+/// a result, or at one of its regions.
+pub(crate) fn breaks(kind: VerifyKind, scope: &Scope, site: &Site) -> bool
+    ensures { result ≡ breaks kind (record { seen = scope.now; place = place_at site.now }) }
+{
+    own_breaks(kind, site)
+        || some_operand(kind, scope, site)
+        || some_written(kind, site)
+        || some_result(kind, site)
+        || some_region(kind, site.op)
+}
+
+/// The earliest fault so far, with all those of an operation counted.
+pub(crate) fn noted_spot(scope: &Scope, site: &Site, best: Option<Broken>) -> Option<Broken>
+    ensures { result ≡ noted_spot (record { seen = scope.now; place = place_at site.now }) best }
+{
+    let best = noted_kind(VerifyKind::Undefined, scope, site, best);
+    let best = noted_kind(VerifyKind::TypeMismatch, scope, site, best);
+    let best = noted_kind(VerifyKind::Terminator, scope, site, best);
+    let best = noted_kind(VerifyKind::UnknownFunc, scope, site, best);
+    let best = noted_kind(VerifyKind::Arity, scope, site, best);
+    let best = noted_kind(VerifyKind::AsyncInMemref, scope, site, best);
+    noted_kind(VerifyKind::BlockingAwait, scope, site, best)
+}
+
+fn noted_kind(kind: VerifyKind, scope: &Scope, site: &Site, best: Option<Broken>) -> Option<Broken>
+    ensures { result ≡ noted_kind kind (record { seen = scope.now; place = place_at site.now }) best }
+{
+    let op = site.op.at;
+    noted(best, breaks(kind, scope, site), Broken { op, kind })
+}
