@@ -17,14 +17,5 @@ for bytes in 262144 524288 1048576; do
     }
     printf "  return %%v%d : i64\n}\n", k - 1
   }' >"$text"
-  python3 - "$program" "$text" <<'P'
-import os, resource, subprocess, sys, time
-program, text = sys.argv[1:]
-begun = time.time()
-with open(text, 'rb') as source:
-    told = subprocess.run([program, 'run', '--steps'], stdin=source, stdout=subprocess.PIPE)
-spent = time.time() - begun
-peak = resource.getrusage(resource.RUSAGE_CHILDREN).ru_maxrss // 1024
-print(f"{os.path.getsize(text)} bytes: status {told.returncode}, {spent:.3f} s, {peak} MB, {told.stdout.decode().strip()!r}")
-P
+  python3 "$here/bench/measure.py" "$text" "$program" run --steps
 done

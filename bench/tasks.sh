@@ -13,14 +13,5 @@ for launches in 1000 4000 12000; do
     for (k = 0; k < n; k++) printf "async.await %%t%d:!async.token\n", k
     print "return }"
   }' >"$text"
-  python3 - "$program" "$text" <<'P'
-import os, resource, subprocess, sys, time
-program, text = sys.argv[1:]
-begun = time.time()
-with open(text, 'rb') as source:
-    told = subprocess.run([program, 'run', '--steps'], stdin=source, stdout=subprocess.PIPE)
-spent = time.time() - begun
-peak = resource.getrusage(resource.RUSAGE_CHILDREN).ru_maxrss // 1024
-print(f"{os.path.getsize(text)} bytes: status {told.returncode}, {spent:.3f} s, {peak} MB, {told.stdout.decode().strip()!r}")
-P
+  python3 "$here/bench/measure.py" "$text" "$program" run --steps
 done

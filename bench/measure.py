@@ -1,0 +1,14 @@
+"""Runs a program with words on a text as standard input, and prints status, time, peak memory and what it told."""
+import os
+import resource
+import subprocess
+import sys
+import time
+
+text, command = sys.argv[1], sys.argv[2:]
+begun = time.time()
+with open(text, "rb") as source:
+    told = subprocess.run(command, stdin=source, stdout=subprocess.PIPE)
+spent = time.time() - begun
+peak = resource.getrusage(resource.RUSAGE_CHILDREN).ru_maxrss // 1024
+print(f"{os.path.getsize(text)} bytes: status {told.returncode}, {spent:.3f} s, {peak} MB, {told.stdout.decode().strip()!r}")
