@@ -1,4 +1,4 @@
-ghost use Rattle.std.specs.Prelude.{◌≡◌, ◌<◌, ◌++◌, ◌∷◌, [], length, slice_get, slice_set, ◌↔◌, IsTrue, IfOk, MatchOption, OnOk, OnErr, OnSome};
+ghost use Rattle.std.specs.Prelude.{◌≡◌, ◌<◌, ◌++◌, ◌∷◌, [], take, length, slice_get, slice_set, ◌↔◌, IsTrue, IfOk, MatchOption, OnOk, OnErr, OnSome};
 ghost use Rattle.std.specs.Option.{option_copied};
 ghost use Rattle.std.specs.Cmp.Lexicographic.{pointwise, lists_per};
 ghost use Rattle.std.specs.List.{AllZip};
@@ -38,6 +38,13 @@ impl<T> Items<T> {
         ensures { result ≡ elements.items }
     {
         Items { elements }
+    }
+
+    pub fn into_vec(self) -> Vec<T>
+        ensures { result.items ≡ self }
+    {
+        let Items { elements } = self;
+        elements
     }
 
     pub fn as_slice(&self) -> &[T]
@@ -81,6 +88,22 @@ impl<T: Drop> Items<T> {
     {
         self.elements.push(element)?;
         Ok(())
+    }
+
+    /// Moves the elements of another list behind these. Without memory this list stays as it was, and the other is dropped.
+    pub fn append(&mut self, more: Items<T>) -> Result<(), AllocError>
+        ensures ok { OnOk result (self.new ≡ self.old ++ more) }
+        ensures err { OnErr result (self.new ≡ self.old) }
+    {
+        let Items { mut elements } = more;
+        self.elements.append(&mut elements)
+    }
+
+    /// Keeps the first elements, as many as this or all.
+    pub fn truncate(&mut self, len: usize)
+        ensures { self.new ≡ take len self.old }
+    {
+        self.elements.truncate(len);
     }
 
     pub fn set(&mut self, at: usize, element: T)
