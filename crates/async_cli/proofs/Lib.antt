@@ -1,3 +1,4 @@
-pub mod Replays
+pub mod Driving
+pub mod Places
 pub mod Stuck
 pub mod Telling

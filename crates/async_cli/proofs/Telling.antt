@@ -1,21 +1,27 @@
--- How the parts of a run make its answer.
-use Rattle.std.proofs.Common.{◌≡◌, ◌≤◌, ℕ, List, [], length, Option, Some, None, Result, Ok, Err, MatchResult, Vec, Global, refl, sym, ap, subst, inl, inr}
-use Rattle.std.specs.Io.KnownBytes.{Appends}
-use Rattle.aio_base.specs.Whole.{Told, ReadsWhole}
-use Rattle.mlir_text.specs.Grammar.{IsText}
+-- How the parts of a call make its answer.
+use Rattle.std.proofs.Common.{◌≡◌, ◌≤◌, ◌<◌, ℕ, List, [], length, Option, Some, None, Result, Ok, Err, MatchResult, Vec, Global, refl, sym, ap, subst, inl, inr, codes}
+use Rattle.aio_base.specs.Whole.{Told}
 use Rattle.ir_forms.specs.declared.ops.Func.{Func}
-use Rattle.ir_forms.specs.declared.ops.Module.{Module}
+use Rattle.step_core.specs.declared.code.Straight.{Straight}
 use Rattle.step_core.specs.declared.ends.Entry.{Entry}
 use Rattle.step_core.specs.Code.{straight_of}
 use Rattle.step_core.specs.Journal.{replay}
 use Rattle.step_core.specs.State.{State, start_state, IsFinished}
 use Rattle.step_core.specs.Laws.{StraightReplaysMean}
 use Rattle.async_cli.specs.declared.stops.Stop.{Stop}
-use Rattle.async_cli.specs.declared.stops.Stop.TheVariants.{Words, Read, TooLong, NotYet, NoEntry, Short, Spent, Write, OutOfMemory}
+use Rattle.async_cli.specs.declared.tool_stops.ToolStop.{ToolStop}
 use Rattle.async_cli.specs.declared.words.Flags.{Flags}
-use Rattle.async_cli.specs.Stops.{stop_text}
+use Rattle.async_cli.specs.Stops.{stop_text, tool_status, tool_text}
 use Rattle.async_cli.specs.Texts.{run_text}
-use Rattle.async_cli.specs.Answers.{Given, Gave, Asks, ReadsModule, ReadStops, Enters, entry_of, LeadsTo, Finishes, Stops, RunsFrom, RunsModule, Causes, Ends, Owes, Answers, IsWritten, IsSaid, TextStops, text_limit}
+use Rattle.async_cli.specs.Answers.{Given, Gave, text_limit, IsInput, HasEntry}
+use Rattle.async_cli.specs.Inputs.{input_limit, IsSplit}
+use Rattle.async_cli.specs.Replays.{IsGiven, AreLines, EntryListStops, ReplayCauses, ReplayEnds}
+use Rattle.async_cli.specs.Tools.{ToolOwes}
+use Rattle.async_cli.specs.Runs.{Asks, Enters, LeadsTo, Finishes, RunStops, Causes, Ends, Owes, Tells, Answers}
+
+-- an empty journal leads to the start
+pub begins : (entry : Func) (journal : List Entry) → journal ≡ [] → (s : State) × LeadsTo entry journal s
+begins entry journal none = (start_state (straight_of entry), ap (λ j. replay j (start_state (straight_of entry))) none)
 
 pub finishes : (entry : Func) (flags : Flags) (journal : List Entry) (text : List ℕ) (s : State) → StraightReplaysMean →
     LeadsTo entry journal s → IsFinished s → text ≡ run_text flags s journal → Finishes entry flags journal text
@@ -27,112 +33,63 @@ finishes entry flags journal text s law leads finished told = record {
   told = told;
 }
 
--- what is told of a call
-abbrev pub Tells : Given → List Entry → Result (Vec ℕ Global) Stop → Type 0
-Tells given journal (Ok text) = Ends given journal text.items
-Tells given journal (Err stop) = Causes given journal stop
+enters : (given : Given) (flags : Flags) (text : List ℕ) (entry : Func) → Asks (codes "run") given flags → IsInput text_limit given.source text →
+    (shown : List ℕ) → shown ≡ text → HasEntry shown entry → Enters given flags entry
+enters given flags text entry asked input shown same found =
+    record { asked = asked; text = text; input = input; found = subst (λ t. HasEntry t entry) same found }
 
-stopped : (given : Given) (journal : List Entry) (entry : Func) (stop : Stop) → Enters given entry → Stops entry journal stop → Causes given journal stop
-stopped given journal entry Words entered stops = absurd stops
-stopped given journal entry Read entered stops = absurd stops
-stopped given journal entry (TooLong limit) entered stops = absurd stops
-stopped given journal entry NotYet entered stops = absurd stops
-stopped given journal entry NoEntry entered stops = absurd stops
-stopped given journal entry (Short parked) entered stops = (entry, (entered, stops))
-stopped given journal entry (Spent entries) entered stops = (entry, (entered, stops))
-stopped given journal entry (Write written) entered stops = absurd stops
-stopped given journal entry OutOfMemory entered stops = inr (entry, (entered, stops))
-
-runs_from : (given : Given) (flags : Flags) (program : Module) (journal : List Entry) (found : Option Func) (result : Result (Vec ℕ Global) Stop) →
-    Asks given flags → ReadsModule given.source program → entry_of program ≡ found → RunsFrom found flags journal result → Tells given journal result
-runs_from given flags program journal None (Ok text) asks reads found runs = absurd (cc runs.1)
-runs_from given flags program journal None (Err stop) asks reads found runs =
-    let same : NoEntry ≡ stop = cc runs.1 in
-    subst (Causes given journal) same (runs.0, (flags, asks), (program, (reads, found)))
-runs_from given flags program journal (Some entry) (Ok text) asks reads found runs =
-    (entry, (record { flags = flags; asked = asks; program = program; module_read = reads; found = found }, runs))
-runs_from given flags program journal (Some entry) (Err stop) asks reads found runs =
-    stopped given journal entry stop (record { flags = flags; asked = asks; program = program; module_read = reads; found = found }) runs
-
-told_match : (given : Given) (journal : List Entry) (result : Result (Vec ℕ Global) Stop) → Tells given journal result →
+-- what the run of a code makes of the whole call
+pub ran : (given : Given) (flags : Flags) (text : List ℕ) (code : Straight) (journal : List Entry) (result : Result (Vec ℕ Global) Stop) →
+    Asks (codes "run") given flags → IsInput text_limit given.source text → (shown : List ℕ) → shown ≡ text →
+    (entry : Func) × (HasEntry shown entry × (code ≡ straight_of entry)) →
+    ((entry : Func) → code ≡ straight_of entry →
+    MatchResult result (λ text. Finishes entry flags journal text.items) (λ stop. RunStops entry journal stop)) →
     MatchResult result (λ text. Ends given journal text.items) (λ stop. Causes given journal stop)
-told_match given journal (Ok text) tells = tells
-told_match given journal (Err stop) tells = tells
+ran given flags text code journal (Ok end) asked input shown same found runs =
+    (flags, (found.0, (enters given flags text found.0 asked input shown same found.1.0, runs found.0 found.1.1)))
+ran given flags text code journal (Err stop) asked input shown same found runs =
+    Causes.run stop flags found.0 (enters given flags text found.0 asked input shown same found.1.0) (runs found.0 found.1.1)
 
-pub runs_module : (given : Given) (flags : Flags) (program : Module) (journal : List Entry) (result : Result (Vec ℕ Global) Stop) →
-    Asks given flags → ReadsModule given.source program → RunsModule program flags journal result →
-    MatchResult result (λ text. Ends given journal text.items) (λ stop. Causes given journal stop)
-runs_module given flags program journal result asks reads runs =
-    told_match given journal result (runs_from given flags program journal (entry_of program) result asks reads refl runs)
-
-text_stops : (source : Told) (bytes : List ℕ) (stop : Stop) → ReadsWhole source.left source.left_after bytes → length bytes ≤ text_limit →
-    TextStops bytes stop → ReadStops source stop
-text_stops source bytes Words read within stops = absurd stops
-text_stops source bytes Read read within stops = absurd stops
-text_stops source bytes (TooLong limit) read within stops = absurd stops
-text_stops source bytes NotYet read within stops = record { bytes = bytes; read = read; within = within; no_text = stops }
-text_stops source bytes NoEntry read within stops = absurd stops
-text_stops source bytes (Short parked) read within stops = absurd stops
-text_stops source bytes (Spent entries) read within stops = absurd stops
-text_stops source bytes (Write written) read within stops = absurd stops
-text_stops source bytes OutOfMemory read within stops = tt
-
-pub reads : (source : Told) (bytes text : List ℕ) (result : Result Module Stop) → ReadsWhole source.left source.left_after bytes →
-    length bytes ≤ text_limit → text ≡ bytes → MatchResult result (λ program. IsText text program) (λ stop. TextStops text stop) →
-    MatchResult result (λ program. ReadsModule source program) (λ stop. ReadStops source stop)
-reads source bytes text (Ok program) read within same is =
-    record { bytes = bytes; read = read; within = within; is_text = subst (λ b. IsText b program) same is }
-reads source bytes text (Err stop) read within same is = text_stops source bytes stop read within (subst (λ b. TextStops b stop) same is)
-
-pub refused : (given : Given) (journal : List Entry) (flags : Flags) (stop : Stop) → journal ≡ [] → Asks given flags → ReadStops given.source stop →
-    Causes given journal stop
-refused given journal flags Words none asks stops = absurd stops
-refused given journal flags Read none asks stops = (none, (flags, asks), stops)
-refused given journal flags (TooLong limit) none asks stops = (none, (flags, asks), stops)
-refused given journal flags NotYet none asks stops = (none, (flags, asks), stops)
-refused given journal flags NoEntry none asks stops = absurd stops
-refused given journal flags (Short parked) none asks stops = absurd stops
-refused given journal flags (Spent entries) none asks stops = absurd stops
-refused given journal flags (Write written) none asks stops = absurd stops
-refused given journal flags OutOfMemory none asks stops = inl none
-
--- ---- the answer
-
-told_whole : (given : Given) (gave : Gave) (journal : List Entry) (answer : Option Stop) (text : List ℕ) → Owes given journal answer text →
-    Appends gave.taken gave.taken_after text → Answers given gave journal answer
-told_whole given gave journal None text owed taken = record { text = text; owed = owed; taken = taken }
-told_whole given gave journal (Some Words) text owed taken = record { text = text; owed = owed; taken = taken }
-told_whole given gave journal (Some Read) text owed taken = record { text = text; owed = owed; taken = taken }
-told_whole given gave journal (Some (TooLong limit)) text owed taken = record { text = text; owed = owed; taken = taken }
-told_whole given gave journal (Some NotYet) text owed taken = record { text = text; owed = owed; taken = taken }
-told_whole given gave journal (Some NoEntry) text owed taken = record { text = text; owed = owed; taken = taken }
-told_whole given gave journal (Some (Short parked)) text owed taken = record { text = text; owed = owed; taken = taken }
-told_whole given gave journal (Some (Spent entries)) text owed taken = record { text = text; owed = owed; taken = taken }
-told_whole given gave journal (Some (Write written)) text owed taken = absurd owed.0
-told_whole given gave journal (Some OutOfMemory) text owed taken = inl (record { text = text; owed = owed; taken = taken })
-
-written : (given : Given) (gave : Gave) (journal : List Entry) (answer after : Option Stop) (text : List ℕ) → Owes given journal answer text →
-    IsWritten gave text answer after → Answers given gave journal after
-written given gave journal answer after text owed is =
-    elim is [
-      | inl whole ↦ subst (Answers given gave journal) (sym whole.0) (told_whole given gave journal answer text owed whole.1)
-      | inr broken ↦ subst (Answers given gave journal) (sym broken.1.0) (record { answer = answer; text = text; owed = owed; rose = broken.1.1.0; front = broken.1.1.1 })
-    ]
-
-said : (given : Given) (gave : Gave) (journal : List Entry) (stop : Stop) (after : Option Stop) → Causes given journal stop →
-    IsSaid gave stop after → Answers given gave journal after
-said given gave journal stop after causes is =
-    elim is [
-      | inl whole ↦ written given gave journal (Some stop) after (stop_text stop) (causes, refl) whole
-      | inr none ↦ subst (Answers given gave journal) (sym none.0) (inr none.1)
-    ]
-
+-- what is written of it
 pub answered : (given : Given) (gave : Gave) (journal : List Entry) (told : Result (Vec ℕ Global) Stop) (after : Option Stop) →
     MatchResult told (λ text. Ends given journal text.items) (λ stop. Causes given journal stop) →
-    MatchResult told (λ text. IsWritten gave text.items None after) (λ stop. IsSaid gave stop after) → Answers given gave journal after
-answered given gave journal (Ok text) after tells is = written given gave journal None after text.items tells is
-answered given gave journal (Err stop) after tells is = said given gave journal stop after tells is
+    MatchResult told (λ text. Tells gave None text.items after) (λ stop. Tells gave (Some stop) (stop_text stop) after) →
+    Answers given gave journal after
+answered given gave journal (Ok text) after owed told = record { answer = None; text = text.items; owed = owed; told = told }
+answered given gave journal (Err stop) after owed told =
+    record { answer = Some stop; text = stop_text stop; owed = (owed, refl); told = told }
 
--- an empty journal leads to the start
-pub begins : (entry : Func) (journal : List Entry) → journal ≡ [] → (s : State) × LeadsTo entry journal s
-begins entry journal none = (start_state (straight_of entry), ap (λ j. replay j (start_state (straight_of entry))) none)
+-- ---- `replay`
+
+pub is_given : (source : Told) (bytes shown text : List ℕ) (journal : Option (List ℕ)) → IsInput input_limit source bytes → shown ≡ bytes →
+    IsSplit shown text journal → IsGiven source text journal
+is_given source bytes shown text journal input same parts =
+    record { bytes = bytes; input = input; parts = subst (λ b. IsSplit b text journal) same parts }
+
+-- what the replay of the entries makes of the whole call
+pub replayed : (source : Told) (flags : Flags) (text : List ℕ) (journal : Option (List ℕ)) (code : Straight) (entries shown : List Entry)
+    (result : Result (Vec ℕ Global) ToolStop) → IsGiven source text journal → length text ≤ text_limit →
+    (entry : Func) × (HasEntry text entry × (code ≡ straight_of entry)) → AreLines journal entries → shown ≡ entries →
+    ((entry : Func) → code ≡ straight_of entry →
+    MatchResult result (λ t. Finishes entry flags shown t.items) (λ stop. EntryListStops entry shown stop)) →
+    MatchResult result (λ t. ReplayEnds source flags t.items) (λ stop. ReplayCauses source stop)
+replayed source flags text journal code entries shown (Ok end) given within found lines same ends = record {
+  program = text;
+  journal = journal;
+  entry = found.0;
+  entries = entries;
+  was_given = given;
+  within = within;
+  found = found.1.0;
+  lines = lines;
+  finishes = subst (λ es. Finishes found.0 flags es end.items) same (ends found.0 found.1.1);
+}
+replayed source flags text journal code entries shown (Err stop) given within found lines same ends =
+    ReplayCauses.no_end stop text journal found.0 entries given within found.1.0 lines
+    (subst (λ es. EntryListStops found.0 es stop) same (ends found.0 found.1.1))
+
+pub replay_owed : (given : Given) (flags : Flags) (result : Result (Vec ℕ Global) ToolStop) → Asks (codes "replay") given flags →
+    MatchResult result (λ t. ReplayEnds given.source flags t.items) (λ stop. ReplayCauses given.source stop) →
+    MatchResult result (λ t. ToolOwes given 0 t.items) (λ stop. ToolOwes given (tool_status stop) (tool_text stop))
+replay_owed given flags (Ok text) asked ends = ToolOwes.replayed flags text.items asked ends
+replay_owed given flags (Err stop) asked causes = ToolOwes.not_replayed flags stop asked causes

@@ -1,6 +1,10 @@
-pub mod Words
-pub mod Texts
-pub mod Stops
-pub mod Held
-pub mod Driven
 pub mod Answers
+pub mod Driven
+pub mod Held
+pub mod Inputs
+pub mod Replays
+pub mod Runs
+pub mod Stops
+pub mod Texts
+pub mod Tools
+pub mod Words

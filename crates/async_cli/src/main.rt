@@ -2,13 +2,16 @@
 #![tactic(auto)]
 
 mod driver;
+mod input;
 mod outcome;
+mod replays;
 mod run;
 mod stops;
 #[cfg(test)]
 mod tests;
 mod texts;
 mod tool;
+mod tool_stops;
 mod words;
 
 use aio_base::{OpenGate, StdSink, StdSource};

@@ -1,28 +1,26 @@
 //! `run`: one module, from bytes to the text of its run's end.
 
-ghost use Rattle.std.specs.Prelude.{◌≡◌, ◌<◌, ◌^◌, [], length, map, MatchResult, None};
+ghost use Rattle.std.specs.Prelude.{◌≡◌, ◌⊎◌, ◌++◌, [], map, MatchResult, None, Some, codes};
 ghost use Rattle.std.specs.String.{string_bytes};
-ghost use Rattle.std.specs.Option.{option_copied};
 ghost use Rattle.aio_base.specs.Whole.{Told};
-ghost use Rattle.async_cli.specs.Answers.{Given, Gave, Answers, Causes, Ends, Stops, Finishes, IsWritten, IsSaid, ReadsModule, ReadStops, TextStops, RunsModule, entry_of};
-ghost use Rattle.mlir_text.specs.Grammar.{IsText};
+ghost use Rattle.ir_forms.specs.declared.ops.Func.{Func as TheFunc};
+ghost use Rattle.step_core.specs.Code.{straight_of};
+ghost use Rattle.async_cli.specs.declared.stops.Stop.TheVariants.{OutOfMemory};
+ghost use Rattle.async_cli.specs.Answers.{Given, Gave, Wrote, HadNoMemory};
+ghost use Rattle.async_cli.specs.Runs.{Answers, Causes, Ends, RunStops, Finishes, Tells, broken};
 ghost use Rattle.async_cli.specs.Stops.{status_of, stop_text};
 
 use crate::driver::{ENTRY_LIMIT, drive};
+use crate::input::{TEXT_LIMIT, read_code, read_input};
 use crate::outcome::Outcome;
 use crate::stops::Stop;
 use crate::texts::run_text;
 use crate::words::{Flags, read_flags};
-use aio_base::{Gate, ReadAllError, Sink, Source, WriteFault, read_all, write_all};
-use ir_forms::{Func, Module};
-use mlir_text::{TextFault, parse};
+use aio_base::{Gate, Sink, Source, WriteFault, write_all};
 use std::alloc::Global;
 use std::sync::Wait;
 use std::thread::Threads;
 use step_core::{Core, Entry, Straight, straight_replays_mean};
-
-/// The most bytes of a module's text.
-const TEXT_LIMIT: u32 = 1_048_576;
 
 /// What `run` answers: its exit status, the journal of the run, and why there is no end of a run,
 /// or why it wasn't written.
@@ -81,7 +79,7 @@ fn answer<K: Sink>(alloc: Global, sink: &mut K, told: &Result<Vec<u8>, Stop>) ->
       faults = K.faults sink.old;
       faults_after = K.faults sink.new;
     } in
-        MatchResult told.now (λ text. IsWritten gave text.items None result) (λ stop. IsSaid gave stop result) }
+        MatchResult told.now (λ text. Tells gave None text.items result) (λ stop. Tells gave (Some stop) (stop_text stop) result) }
 {
     match told {
         Ok(text) => write_answer(sink, text.as_slice(), None),
@@ -96,7 +94,7 @@ fn write_answer<K: Sink>(sink: &mut K, text: &[u8], answer: Option<Stop>) -> Opt
       faults = K.faults sink.old;
       faults_after = K.faults sink.new;
     } in
-        IsWritten gave text.now answer result }
+        Wrote gave text.now answer broken result }
 {
     match write_all(sink, text) {
         Ok(()) => answer,
@@ -104,14 +102,14 @@ fn write_answer<K: Sink>(sink: &mut K, text: &[u8], answer: Option<Stop>) -> Opt
     }
 }
 
-pub(crate) fn write_stop<K: Sink>(alloc: Global, sink: &mut K, stop: Stop) -> Option<Stop>
+fn write_stop<K: Sink>(alloc: Global, sink: &mut K, stop: Stop) -> Option<Stop>
     ensures { let gave : Gave = record {
       taken = K.taken sink.old;
       taken_after = K.taken sink.new;
       faults = K.faults sink.old;
       faults_after = K.faults sink.new;
     } in
-        IsSaid gave stop result }
+        Tells gave (Some stop) (stop_text stop) result }
 {
     let mut text = Vec::new(alloc);
     match stop.push_text(&mut text) {
@@ -139,86 +137,32 @@ fn tell<S: Source>(
     } in
         MatchResult result (λ text. Ends given journal.new.items text.items) (λ stop. Causes given journal.new.items stop) }
 {
-    let Some(flags) = read_flags("run", words) else {
-        return Err(Stop::Words);
+    let flags = match read_flags("run", words) {
+        Some(flags) => flags,
+        None => return Err(Stop::Words),
     };
-    match read_module(alloc, source) {
-        Ok(program) => run_module(alloc, &program, flags, journal),
+    let text = match read_input(alloc, source, TEXT_LIMIT) {
+        Ok(text) => text,
+        Err(stop) => return Err(stop),
+    };
+    match read_code(alloc, &text) {
+        Ok(code) => run_code(alloc, &code, flags, journal),
         Err(stop) => Err(stop),
     }
 }
 
-/// Runs the function `main` of a module, and makes the text of the run's end.
-fn run_module(
+/// Runs a function's code, and makes the text of the run's end.
+fn run_code(
     alloc: Global,
-    program: &Module,
+    code: &Straight,
     flags: Flags,
     journal: &mut Vec<Entry>,
 ) -> Result<Vec<u8>, Stop>
     requires { journal.old.items ≡ [] }
-    ensures { RunsModule program.now flags journal.new.items result }
+    ensures { (entry : TheFunc) → code.now ≡ straight_of entry →
+        MatchResult result (λ text. Finishes entry flags journal.new.items text.items) (λ stop. RunStops entry journal.new.items stop) }
 {
-    match find_entry(program) {
-        Some(entry) => run_entry(alloc, entry, flags, journal),
-        None => Err(Stop::NoEntry),
-    }
-}
-
-/// Reads all that the source has left, and the module of which it is the text.
-fn read_module<S: Source>(alloc: Global, source: &mut S) -> Result<Module, Stop>
-    ensures { let told : Told = record {
-      left = S.left source.old;
-      left_after = S.left source.new;
-      faults = S.faults source.old;
-      faults_after = S.faults source.new;
-    } in
-        MatchResult result (λ program. ReadsModule told program) (λ stop. ReadStops told stop) }
-{
-    let bytes = match read_all(alloc, source, TEXT_LIMIT as usize) {
-        Ok(bytes) => bytes,
-        Err(ReadAllError::ReadFault) => return Err(Stop::Read),
-        Err(ReadAllError::TooLong { limit: _ }) => return Err(Stop::TooLong { limit: TEXT_LIMIT }),
-        Err(ReadAllError::OutOfMemory) => return Err(Stop::OutOfMemory),
-    };
-    read_text(alloc, &bytes)
-}
-
-fn read_text(alloc: Global, bytes: &[u8]) -> Result<Module, Stop>
-    requires { length bytes.now < 2 ^ 32 }
-    ensures { MatchResult result (λ program. IsText bytes.now program) (λ stop. TextStops bytes.now stop) }
-{
-    match parse(alloc, bytes) {
-        Ok(program) => Ok(program),
-        Err(TextFault::NotYet) => Err(Stop::NotYet),
-        Err(TextFault::OutOfMemory) => Err(Stop::OutOfMemory),
-    }
-}
-
-fn find_entry(program: &Module) -> Option<&Func>
-    ensures { option_copied result ≡ entry_of program.now }
-{
-    for func in program.funcs.as_slice() {
-        if func.name.as_slice() == b"main".as_slice() {
-            return Some(func);
-        }
-    }
-    None
-}
-
-/// Runs a function, and makes the text of the run's end.
-fn run_entry(
-    alloc: Global,
-    entry: &Func,
-    flags: Flags,
-    journal: &mut Vec<Entry>,
-) -> Result<Vec<u8>, Stop>
-    requires { journal.old.items ≡ [] }
-    ensures { MatchResult result (λ text. Finishes entry.now flags journal.new.items text.items) (λ stop. Stops entry.now journal.new.items stop) }
-{
-    let Ok(code) = Straight::of(alloc, entry) else {
-        return Err(Stop::OutOfMemory);
-    };
-    let Ok(mut core) = Core::start(alloc, &code) else {
+    let Ok(mut core) = Core::start(alloc, code) else {
         return Err(Stop::OutOfMemory);
     };
     match drive(alloc, &mut core, journal) {

@@ -255,13 +255,287 @@ fn moves_one_byte_at_a_call(rt: HostRuntime) -> Result<(), Fail> {
     Ok(())
 }
 
+// `tool` on these bytes, and whether it answered this status and text.
+fn tool_answers(
+    alloc: Global,
+    words: &[&str],
+    text: &[u8],
+    status: u8,
+    told: &[u8],
+) -> Result<bool, AllocError> {
+    let words = words_of(alloc, words)?;
+    let mut source = source_of(alloc, text, &[])?;
+    let mut sink = sink_of(alloc)?;
+    let answered = tool(alloc, words.as_slice(), &mut source, &mut sink);
+    Ok(answered == status && sink.taken() == told)
+}
+
+// A module's text, the heading and a journal's lines.
+fn with_journal(alloc: Global, text: &[u8], journal: &[u8]) -> Result<Vec<u8>, AllocError> {
+    let mut all = text.to_vec(alloc)?;
+    all.extend_from_slice(b"\n-- journal\n")?;
+    all.extend_from_slice(journal)?;
+    Ok(all)
+}
+
+// `replay` of a module and a journal.
+fn replays(
+    alloc: Global,
+    words: &[&str],
+    text: &[u8],
+    journal: &[u8],
+    status: u8,
+    told: &[u8],
+) -> Result<bool, AllocError> {
+    let all = with_journal(alloc, text, journal)?;
+    tool_answers(alloc, words, all.as_slice(), status, told)
+}
+
 #[test]
 fn refuses_other_commands(rt: HostRuntime) -> Result<(), Fail> {
+    let refused: &[u8] = b"refused: words\n";
+    assert!(rt; tool_answers(rt.alloc(), &["compile"], ANSWER, 2, refused)?);
+    assert!(rt; tool_answers(rt.alloc(), &["run"], ANSWER, 2, refused)?);
+    assert!(rt; tool_answers(rt.alloc(), &["replay", "--print"], ANSWER, 2, refused)?);
+    assert!(rt; tool_answers(rt.alloc(), &[], ANSWER, 2, refused)?);
+    Ok(())
+}
+
+#[test]
+fn replays_a_finished_run(rt: HostRuntime) -> Result<(), Fail> {
+    let rows: [(&[&str], &[u8], &[u8], &[u8]); 5] = [
+        (
+            &["replay"],
+            LAUNCH,
+            b"0 0\n0 0\n1 0\n",
+            b"tasks 1, objects 1\n",
+        ),
+        (
+            &["replay"],
+            LAUNCH,
+            b"0 0\n1 0\n0 0\n",
+            b"tasks 1, objects 1\n",
+        ),
+        (
+            &["replay", "--journal"],
+            AWAIT,
+            b"0 0\n0 0\n1 0\n0 0\n",
+            b"tasks 1, objects 1\n-- journal\n0 0\n0 0\n1 0\n0 0\n",
+        ),
+        (
+            &["replay", "--journal", "--steps"],
+            ANSWER,
+            b"0 3\n",
+            b"result 0: 42\ntasks 0, objects 0\nsteps 4, entries 1\n-- journal\n0 3\n",
+        ),
+        (
+            &["replay"],
+            ANSWER,
+            b"0 3\n",
+            b"result 0: 42\ntasks 0, objects 0\n",
+        ),
+    ];
+    for (words, text, journal, told) in rows {
+        assert!(rt; replays(rt.alloc(), words, text, journal, 0, told)?);
+    }
+    Ok(())
+}
+
+#[test]
+fn names_why_a_journal_is_no_finished_run(rt: HostRuntime) -> Result<(), Fail> {
+    let rows: [(&[u8], &[u8], u8, &[u8]); 12] = [
+        (
+            LAUNCH,
+            b"1 0\n",
+            11,
+            b"refused: entry 0 names task 1, which is not there\n",
+        ),
+        (
+            AWAIT,
+            b"0 0\n0 0\n0 0\n",
+            11,
+            b"refused: entry 2 names task 0, which is parked\n",
+        ),
+        (
+            ANSWER,
+            b"0 2\n",
+            11,
+            b"refused: entry 0 names task 0, which has 3 local steps\n",
+        ),
+        (
+            LAUNCH,
+            b"0 0\n0 0\n1 0\n1 0\n",
+            11,
+            b"refused: entry 3 names task 1, which is not there\n",
+        ),
+        (
+            LAUNCH,
+            b"0 0\n0 0\n",
+            6,
+            b"stopped: unfinished after 2 entries\n",
+        ),
+        (LAUNCH, b"", 6, b"stopped: unfinished after 0 entries\n"),
+        (LAUNCH, b"0 x\n", 3, b"refused: journal line 1\n"),
+        (LAUNCH, b"0 0\n0 0", 3, b"refused: journal line 2\n"),
+        (LAUNCH, b"0 0\n\n1 0\n", 3, b"refused: journal line 2\n"),
+        (LAUNCH, b"0 00\n", 3, b"refused: journal line 1\n"),
+        (b"", b"0 0\n", 3, b"refused: no entry main\n"),
+        (b"nonsense", b"x\n", 3, b"refused: not yet\n"),
+    ];
+    for (text, journal, status, told) in rows {
+        assert!(rt; replays(rt.alloc(), &["replay"], text, journal, status, told)?);
+    }
+    Ok(())
+}
+
+#[test]
+fn finds_the_heading(rt: HostRuntime) -> Result<(), Fail> {
     let alloc = rt.alloc();
-    let words = words_of(alloc, &["check"])?;
-    let mut source = source_of(alloc, ANSWER, &[])?;
+    let no_line: &[u8] = b"refused: journal line 0\n";
+    let unfinished: &[u8] = b"stopped: unfinished after 0 entries\n";
+    let rows: [(&[u8], u8, &[u8]); 7] = [
+        (LAUNCH, 3, no_line),
+        (b"func.func @main() { return }\n-- journal", 6, unfinished),
+        (b"func.func @main() { return }\n-- journal\n", 6, unfinished),
+        (b"-- journal\n0 0\n", 3, b"refused: no entry main\n"),
+        (b"-- journal", 3, b"refused: no entry main\n"),
+        (
+            b"func.func @main() { return }\n-- journal\r\n0 0\n",
+            3,
+            b"refused: not yet\n",
+        ),
+        (
+            b"func.func @main() { return }\n-- journal\n0 0\n-- journal\n",
+            3,
+            b"refused: journal line 2\n",
+        ),
+    ];
+    for (text, status, told) in rows {
+        assert!(rt; tool_answers(alloc, &["replay"], text, status, told)?);
+    }
+    Ok(())
+}
+
+fn nonsense(alloc: Global, lines: usize) -> Result<Vec<u8>, AllocError> {
+    let mut text = Vec::new(alloc);
+    for _line in 0..lines {
+        text.extend_from_slice(b"nonsense\n")?;
+    }
+    Ok(text)
+}
+
+#[test]
+fn refuses_long_parts(rt: HostRuntime) -> Result<(), Fail> {
+    let alloc = rt.alloc();
+    let journal = nonsense(alloc, 100_000)?;
+    assert!(rt;
+        replays(
+            alloc,
+            &["replay"],
+            LAUNCH,
+            journal.as_slice(),
+            3,
+            b"refused: journal line 1\n"
+        )?
+    );
+    let long = blanks(alloc, 1_048_577)?;
+    assert!(rt;
+        tool_answers(
+            alloc,
+            &["replay"],
+            long.as_slice(),
+            3,
+            b"refused: longer than 1048576 bytes\n"
+        )?
+    );
+    let text = blanks(alloc, 1_048_575)?;
+    assert!(rt;
+        replays(
+            alloc,
+            &["replay"],
+            text.as_slice(),
+            b"",
+            3,
+            b"refused: no entry main\n"
+        )?
+    );
+    let text = blanks(alloc, 1_048_576)?;
+    assert!(rt;
+        replays(
+            alloc,
+            &["replay"],
+            text.as_slice(),
+            b"",
+            3,
+            b"refused: longer than 1048576 bytes\n"
+        )?
+    );
+    Ok(())
+}
+
+// A module whose tasks are launched one after another, and each awaited at the end.
+fn launches(alloc: Global, count: u32) -> Result<Vec<u8>, AllocError> {
+    let mut buffer = itoa::Buffer::new();
+    let mut text = b"func.func @main() {\n".to_vec(alloc)?;
+    for number in 0..count {
+        text.extend_from_slice(b"%t")?;
+        text.extend_from_slice(buffer.format(number).as_bytes())?;
+        text.extend_from_slice(b" = async.execute { async.yield }\n")?;
+    }
+    for number in 0..count {
+        text.extend_from_slice(b"async.await %t")?;
+        text.extend_from_slice(buffer.format(number).as_bytes())?;
+        text.extend_from_slice(b" : !async.token\n")?;
+    }
+    text.extend_from_slice(b"return }\n")?;
+    Ok(text)
+}
+
+#[test]
+fn replays_what_was_run(rt: HostRuntime) -> Result<(), Fail> {
+    let alloc = rt.alloc();
+    let text = launches(alloc, 1_000)?;
+    let words = words_of(alloc, &["run"])?;
+    let mut source = source_of(alloc, text.as_slice(), &[])?;
     let mut sink = sink_of(alloc)?;
-    assert_eq!(rt; tool(alloc, words.as_slice(), &mut source, &mut sink), 2);
-    assert_eq!(rt; sink.taken(), b"refused: words\n".as_slice());
+    let end = run(
+        &rt,
+        alloc,
+        words.as_slice(),
+        &mut source,
+        &mut sink,
+        &OpenGate,
+    );
+    assert_eq!(rt; end.status, 0);
+    let told: &[u8] = b"tasks 1000, objects 1000\n";
+    assert_eq!(rt; sink.taken(), told);
+    let mut lines = Vec::new(alloc);
+    run_journal::push_journal(&mut lines, end.journal.as_slice())?;
+    assert!(rt;
+        replays(
+            alloc,
+            &["replay"],
+            text.as_slice(),
+            lines.as_slice(),
+            0,
+            told
+        )?
+    );
+    Ok(())
+}
+
+#[test]
+fn names_a_failed_read_and_write_of_a_replay(rt: HostRuntime) -> Result<(), Fail> {
+    let alloc = rt.alloc();
+    let words = words_of(alloc, &["replay"])?;
+    let all = with_journal(alloc, ANSWER, b"0 3\n")?;
+    let mut source = source_of(alloc, all.as_slice(), &[1])?;
+    let mut sink = sink_of(alloc)?;
+    assert_eq!(rt; tool(alloc, words.as_slice(), &mut source, &mut sink), 7);
+    assert_eq!(rt; sink.taken(), b"refused: read fault\n".as_slice());
+    let mut source = source_of(alloc, all.as_slice(), &[])?;
+    let mut sink = MemSink::new(alloc, 5, 64, [2u64].to_vec(alloc)?)?;
+    assert_eq!(rt; tool(alloc, words.as_slice(), &mut source, &mut sink), 8);
+    assert_eq!(rt; sink.taken(), b"resul".as_slice());
     Ok(())
 }

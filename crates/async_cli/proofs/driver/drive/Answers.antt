@@ -2,7 +2,7 @@ use Rattle.std.proofs.Common.{arith, ap, ◌∙◌, inr, rules}
 use Rattle.step_core.specs.Journal.{replay}
 use Rattle.async_cli.specs.Held.{IsUnfinished}
 use Rattle.async_cli.proofs.Stuck.{when_true, when_false}
-use Rattle.async_cli.proofs.Replays.{possible-push, driven-push, live_le}
+use Rattle.async_cli.proofs.Driving.{possible-push, driven-push, live_le}
 use Rattle.async_cli.proofs.driver.drive.Goals as goal
 
 pub overflow_cast-parked : goal.overflow_cast-parked

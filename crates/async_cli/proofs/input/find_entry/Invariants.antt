@@ -1,6 +1,6 @@
 use Rattle.std.proofs.Common.{◌≡◌, drop, codes}
 use Rattle.async_cli.specs.Answers.{func_named}
-use Rattle.async_cli.proofs.run.find_entry.Given as goal
+use Rattle.async_cli.proofs.input.find_entry.Given as goal
 
 -- what the functions left have is what all have
 abbrev pub invariant-loop-func : goal.invariant-loop-func

@@ -1,0 +1,128 @@
+//! What the commands read: all of the source, and the code of the entry of a module's text.
+
+ghost use Rattle.std.specs.Prelude.{◌≡◌, ℕ, ◌≤◌, ◌<◌, ◌+◌, ◌^◌, true, false, length, take, drop, MatchResult, MatchOption};
+ghost use Rattle.std.specs.Option.{option_copied};
+ghost use Rattle.aio_base.specs.Whole.{Told};
+ghost use Rattle.ir_forms.specs.declared.ops.Func.{Func as TheFunc};
+ghost use Rattle.step_core.specs.Code.{straight_of};
+ghost use Rattle.async_cli.specs.Answers.{IsInput, InputStops, HasEntry, EntryStops, entry_of};
+ghost use Rattle.async_cli.specs.Inputs.{begins_line, ends_line, is_heading, IsSplit};
+
+use crate::stops::Stop;
+use aio_base::{ReadAllError, Source, read_all};
+use ir_forms::{Func, Module};
+use mlir_text::{TextFault, parse};
+use std::alloc::Global;
+use step_core::Straight;
+
+/// The most bytes of a module's text.
+pub const TEXT_LIMIT: u32 = 1_048_576;
+
+/// The most bytes of a module's text and a journal.
+pub const INPUT_LIMIT: u32 = 536_870_912;
+
+/// Reads all that the source has left, which is to be at most `limit` bytes.
+pub fn read_input<S: Source>(alloc: Global, source: &mut S, limit: u32) -> Result<Vec<u8>, Stop>
+    ensures { let told : Told = record {
+      left = S.left source.old;
+      left_after = S.left source.new;
+      faults = S.faults source.old;
+      faults_after = S.faults source.new;
+    } in
+        MatchResult result (λ bytes. IsInput limit told bytes.items) (λ stop. InputStops limit told stop) }
+{
+    match read_all(alloc, source, limit as usize) {
+        Ok(bytes) => Ok(bytes),
+        Err(ReadAllError::ReadFault) => Err(Stop::Read),
+        Err(ReadAllError::TooLong { limit: _ }) => Err(Stop::TooLong { limit }),
+        Err(ReadAllError::OutOfMemory) => Err(Stop::OutOfMemory),
+    }
+}
+
+fn find_entry(program: &Module) -> Option<&Func>
+    ensures { option_copied result ≡ entry_of program.now }
+{
+    for func in program.funcs.as_slice() {
+        if func.name.as_slice() == b"main".as_slice() {
+            return Some(func);
+        }
+    }
+    None
+}
+
+/// The code of the entry of the module whose text this is.
+pub fn read_code(alloc: Global, text: &[u8]) -> Result<Straight, Stop>
+    requires { length text.now < 2 ^ 32 }
+    ensures { MatchResult result (λ code. (entry : TheFunc) × (HasEntry text.now entry × (code ≡ straight_of entry))) (λ stop. EntryStops text.now stop) }
+{
+    let program = match parse(alloc, text) {
+        Ok(program) => program,
+        Err(TextFault::NotYet) => return Err(Stop::NotYet),
+        Err(TextFault::OutOfMemory) => return Err(Stop::OutOfMemory),
+    };
+    match find_entry(&program) {
+        Some(entry) => match Straight::of(alloc, entry) {
+            Ok(code) => Ok(code),
+            Err(_) => Err(Stop::OutOfMemory),
+        },
+        None => Err(Stop::NoEntry),
+    }
+}
+
+// ---- the parts of the input of `replay`
+
+fn begins_line(bytes: &[u8], at: usize) -> bool
+    requires { at ≤ length bytes.now }
+    ensures { result ≡ begins_line bytes.now at }
+{
+    at == 0 || bytes[at - 1] == b'\n'
+}
+
+fn ends_line(bytes: &[u8], at: usize) -> bool
+    requires { at ≤ length bytes.now }
+    ensures { result ≡ ends_line bytes.now at }
+{
+    at == bytes.len() || bytes[at] == b'\n'
+}
+
+/// Whether the line that begins here is `-- journal`.
+fn is_heading(bytes: &[u8], at: usize) -> bool
+    requires { at ≤ length bytes.now }
+    ensures { result ≡ is_heading bytes.now at }
+{
+    begins_line(bytes, at)
+        && at + 10 <= bytes.len()
+        && &bytes[at..at + 10] == b"-- journal".as_slice()
+        && ends_line(bytes, at + 10)
+}
+
+/// The place of the first line `-- journal`.
+fn find_heading(bytes: &[u8]) -> Option<usize>
+    ensures { MatchOption result
+        ((at : ℕ) → at ≤ length bytes.now → is_heading bytes.now at ≡ false)
+        (λ at. (is_heading bytes.now at ≡ true) × (at ≤ length bytes.now) × ((before : ℕ) → before < at → is_heading bytes.now before ≡ false)) }
+{
+    for at in 0..=bytes.len() {
+        if is_heading(bytes, at) {
+            return Some(at);
+        }
+    }
+    None
+}
+
+/// The bytes from this place on.
+fn bytes_from(bytes: &[u8], at: usize) -> &[u8]
+    ensures { result.now ≡ drop at bytes.now }
+{
+    if at < bytes.len() { &bytes[at..] } else { &[] }
+}
+
+/// A module's text, and the journal behind the line `-- journal`, if there is such a line.
+pub fn split_input(bytes: &[u8]) -> (&[u8], Option<&[u8]>)
+    ensures { IsSplit bytes.now result.0.now (option_copied result.1) }
+{
+    match find_heading(bytes) {
+        Some(at) => (&bytes[..at], Some(bytes_from(bytes, at + 11))),
+        None => (bytes, None),
+    }
+}
