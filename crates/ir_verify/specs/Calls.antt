@@ -6,8 +6,6 @@ use Rattle.ir_forms.specs.declared.ops.Op.{Op}
 use Rattle.ir_forms.specs.declared.ops.Func.{Func}
 use Rattle.ir_forms.specs.Ops.{attr_of}
 use Rattle.ir_verify.specs.declared.calls.Call.{Call}
-use Rattle.ir_verify.specs.declared.form.Form.{Form}
-use Rattle.ir_verify.specs.declared.form.Form.TheVariants.{TryCall}
 use Rattle.ir_verify.specs.declared.place.Nest.{Nest}
 use Rattle.ir_verify.specs.declared.place.Nest.TheVariants.{InFunction}
 use Rattle.ir_verify.specs.Breaks.{is_call}
@@ -27,18 +25,13 @@ abbrev pub callee_place : List Func → Attr → Option ℕ
 callee_place funcs (Callee name) = first_named funcs name
 callee_place funcs _ = None
 
--- `aio.try_call`
-abbrev pub is_try : Form → Bool
-is_try TryCall = true
-is_try _ = false
-
-abbrev pub call_to : Option ℕ → Nest → Form → List Call
-call_to None nest f = []
-call_to (Some callee) nest f = record { callee = callee; in_task = is_in_task nest; tries = is_try f } ∷ []
+abbrev pub call_to : Option ℕ → Nest → List Call
+call_to None nest = []
+call_to (Some callee) nest = record { callee = callee; in_task = is_in_task nest } ∷ []
 
 -- the call that an operation is, if it names a function
 abbrev pub call_of : List Func → Op → Nest → List Call
-call_of funcs op nest = if is_call (form op) then call_to (callee_place funcs (attr_of op)) nest (form op) else []
+call_of funcs op nest = if is_call (form op) then call_to (callee_place funcs (attr_of op)) nest else []
 
 abbrev pub call_at : List Func → Spot → List Call
 call_at funcs s = call_of funcs s.place.op s.place.around.nest

@@ -96,6 +96,9 @@ fn begins_in_main(rt: HostRuntime) -> Result<(), Fail> {
 fn holds_its_laws() {
     laws::breaks_nothing();
     laws::operands_fit();
+    laws::operations_stand();
+    laws::level_is_least();
+    laws::level_is_structured();
 }
 
 #[test]
