@@ -1,11 +1,12 @@
 -- Marks of the functions that tasks call.
-use Rattle.std.proofs.Common.{◌≡◌, ◌⊎◌, inl, inr, ℕ, zero, suc, ◌+◌, ◌<◌, ◌&&◌, ◌||◌, if◌then◌else◌, Bool, true, false, List, [], ◌∷◌, length, Option, Some, None, refl, sym, ap, ◌∙◌, arith, subst, zero-add}
+use Rattle.std.proofs.Common.{◌≡◌, ◌⊎◌, inl, inr, ℕ, zero, suc, ◌+◌, ◌<◌, ◌||◌, if◌then◌else◌, Bool, true, false, List, [], ◌∷◌, ◌++◌, length, ◌≤◌, get_or, Option, Some, None, refl, sym, ap, ◌∙◌, arith, subst, length-append}
 use Rattle.std.specs.Prelude.{slice_get, slice_set}
 use Rattle.std.proofs.lemmas.Bool.Decides.{eqb_tells}
-use Rattle.std.proofs.lemmas.Option.{slice_get_within}
+use Rattle.std.proofs.lemmas.Option.{slice_get_within, slice_get_read}
+use Rattle.std.proofs.Math.ListN.{length-set}
 use Rattle.ir_verify.specs.declared.calls.Call.{Call}
-use Rattle.ir_verify.specs.Calls.{HasCall, IsReached, from_task, through, is_unmarked, is_marked, open_callee, open_from, or_later}
-use Rattle.ir_verify.proofs.ScopeLemmas.{get_set_other}
+use Rattle.ir_verify.specs.Calls.{IsReached, from_task, through, is_unmarked, Marked, with_mark, with_callees, AreMarks}
+use Rattle.ir_verify.proofs.ScopeLemmas.{get_front, get_set, get_set_other}
 
 -- how many functions have no mark
 abbrev pub unmarked : List Bool → ℕ
@@ -13,164 +14,316 @@ unmarked [] = 0
 unmarked (true ∷ marks) = unmarked marks
 unmarked (false ∷ marks) = suc (unmarked marks)
 
-pub marked_more : (marks : List Bool) (k : ℕ) → is_unmarked (slice_get marks k) ≡ true → unmarked (slice_set marks k true) < unmarked marks
-marked_more [] k open_there = cc
-marked_more (true ∷ marks) zero open_there = cc
-marked_more (false ∷ marks) zero open_there = omega arith
-marked_more (true ∷ marks) (suc k) open_there = marked_more marks k open_there
-marked_more (false ∷ marks) (suc k) open_there = omega (arith, marked_more marks k open_there)
+-- how many marks can still be given and followed
+abbrev pub ahead : Marked → ℕ
+ahead m = unmarked m.marks + length m.waiting
 
-pub unmarked_within : (marks : List Bool) (k : ℕ) → is_unmarked (slice_get marks k) ≡ true → k < length marks
-unmarked_within [] k open_there = cc
-unmarked_within (b ∷ marks) zero open_there = omega arith
-unmarked_within (b ∷ marks) (suc k) open_there = omega (arith, unmarked_within marks k open_there)
+one_less : (marks : List Bool) (k : ℕ) → is_unmarked (slice_get marks k) ≡ true → unmarked (slice_set marks k true) + 1 ≡ unmarked marks
+one_less [] k free = cc
+one_less (true ∷ marks) zero free = cc
+one_less (false ∷ marks) zero free = omega arith
+one_less (true ∷ marks) (suc k) free = one_less marks k free
+one_less (false ∷ marks) (suc k) free = omega (arith, one_less marks k free)
 
-pub marked_within : (marks : List Bool) (k : ℕ) → k < length marks → is_unmarked (slice_get marks k) ≡ false → slice_get marks k ≡ Some true
+free_within : (marks : List Bool) (k : ℕ) → is_unmarked (slice_get marks k) ≡ true → k < length marks
+free_within [] k free = cc
+free_within (b ∷ marks) zero free = omega arith
+free_within (b ∷ marks) (suc k) free = omega (arith, free_within marks k free)
+
+marked_within : (marks : List Bool) (k : ℕ) → k < length marks → is_unmarked (slice_get marks k) ≡ false → slice_get marks k ≡ Some true
 marked_within [] k inside closed = absurd (omega arith)
 marked_within (true ∷ marks) zero inside closed = refl
 marked_within (false ∷ marks) zero inside closed = cc
 marked_within (b ∷ marks) (suc k) inside closed = marked_within marks k (omega arith) closed
 
--- ---- a call that is found
+not_free : (o : Option Bool) → o ≡ Some true → is_unmarked o ≡ false
+not_free None is = cc
+not_free (Some true) is = refl
+not_free (Some false) is = cc
 
-pub record Found (marks : List Bool) (all : Bool) (calls : List Call) (callee : ℕ) : Type 0 where
+at_end : (xs : List ℕ) (x : ℕ) → slice_get (xs ++ x ∷ []) (length xs) ≡ Some x
+at_end [] x = refl
+at_end (y ∷ xs) x = at_end xs x
+
+last_or : (xs : List ℕ) (x i j : ℕ) → slice_get (xs ++ x ∷ []) i ≡ Some j → (slice_get xs i ≡ Some j) ⊎ (x ≡ j)
+last_or [] x zero j at = let same : x ≡ j = cc in inr same
+last_or [] x (suc i) j at = cc
+last_or (y ∷ xs) x zero j at = inl at
+last_or (y ∷ xs) x (suc i) j at = last_or xs x i j at
+
+-- ---- marks that grow
+
+pub record Waits (m : Marked) (k : ℕ) : Type 0 where
   pub at : ℕ
-  pub call : Call
-  pub stands : slice_get calls at ≡ Some call
-  pub leads : call.callee ≡ callee
-  pub counts : (all || call.in_task) ≡ true
-  pub open_there : is_unmarked (slice_get marks callee) ≡ true
+  pub is : slice_get m.waiting at ≡ Some k
 
-both : (a b : Bool) → (a && b) ≡ true → (a ≡ true) × (b ≡ true)
-both true b h = (refl, h)
-both false b h = cc
+-- the second one has all marks of the first one, and what it has more waits
+pub record Grows (m n : Marked) : Type 0 where
+  pub each : length n.marks ≡ length m.marks
+  pub kept : (j : ℕ) → slice_get m.marks j ≡ Some true → slice_get n.marks j ≡ Some true
+  pub closed : (j : ℕ) → is_unmarked (slice_get m.marks j) ≡ false → is_unmarked (slice_get n.marks j) ≡ false
+  pub waits : (i j : ℕ) → slice_get m.waiting i ≡ Some j → slice_get n.waiting i ≡ Some j
+  pub origin : (j : ℕ) → slice_get n.marks j ≡ Some true → (slice_get m.marks j ≡ Some true) ⊎ Waits n j
+  pub same : ahead n ≡ ahead m
 
-neither : (a b : Bool) → (a && b) ≡ false → a ≡ true → b ≡ false
-neither true b h is = h
-neither false b h is = cc
+grows_none : (m : Marked) → Grows m m
+grows_none m = record { each = refl; kept = λ j is. is; closed = λ j is. is; waits = λ i j is. is; origin = λ j is. inl is; same = refl }
 
-pub found_callee : (marks : List Bool) (all : Bool) (calls : List Call) (callee : ℕ) → open_callee marks all calls ≡ Some callee → Found marks all calls callee
-found_callee marks all [] callee is = cc
-found_callee marks all (call ∷ calls) callee is = step ((all || call.in_task) && is_unmarked (slice_get marks call.callee)) refl is (λ later. found_callee marks all calls callee later)
+grows_twice : (m n o : Marked) → Grows m n → Grows n o → Grows m o
+grows_twice m n o g h = record {
+  each = h.each ∙ g.each;
+  kept = λ j is. h.kept j (g.kept j is);
+  closed = λ j is. h.closed j (g.closed j is);
+  waits = λ i j is. h.waits i j (g.waits i j is);
+  origin = λ j is. elim (h.origin j is) [
+    | inl before ↦ elim (g.origin j before) [
+      | inl first ↦ inl first
+      | inr w ↦ inr (record { at = w.at; is = h.waits w.at j w.is })
+    ]
+    | inr w ↦ inr w
+  ];
+  same = h.same ∙ g.same;
+}
+
+module _ (m : Marked) (k : ℕ) where
+  abbrev given : Marked
+  given = record { marks = slice_set m.marks k true; waiting = m.waiting ++ k ∷ [] }
+
+  new_waits : Waits given k
+  new_waits = record { at = length m.waiting; is = at_end m.waiting k }
+
+  grows_given : is_unmarked (slice_get m.marks k) ≡ true → Grows m given
+  grows_given free =
+      let inside : k < length m.marks = free_within m.marks k free in
+      let here : slice_get (slice_set m.marks k true) k ≡ Some true = get_set m.marks k true inside in
+      record {
+        each = length-set m.marks k true;
+        kept = λ j is. elim (eqb_tells k j) [
+          | inl equal ↦ subst (λ n. slice_get (slice_set m.marks k true) n ≡ Some true) equal.1 here
+          | inr other ↦ get_set_other m.marks k j true other.1 ∙ is
+        ];
+        closed = λ j is. elim (eqb_tells k j) [
+          | inl equal ↦ subst (λ n. is_unmarked (slice_get (slice_set m.marks k true) n) ≡ false) equal.1 (not_free (slice_get (slice_set m.marks k true) k) here)
+          | inr other ↦ ap is_unmarked (get_set_other m.marks k j true other.1) ∙ is
+        ];
+        waits = λ i j is. get_front m.waiting (k ∷ []) i j is;
+        origin = λ j is. elim (eqb_tells k j) [
+          | inl equal ↦ inr (subst (λ n. Waits given n) equal.1 new_waits)
+          | inr other ↦ inl (sym (get_set_other m.marks k j true other.1) ∙ is)
+        ];
+        same = omega (arith, one_less m.marks k free, length-append m.waiting (k ∷ []));
+      }
+
+  grows_mark : Grows m (with_mark k m)
+  grows_mark = step (is_unmarked (slice_get m.marks k)) refl
+    where
+      step : (b : Bool) → is_unmarked (slice_get m.marks k) ≡ b → Grows m (if b then given else m)
+      step true free = grows_given free
+      step false closed = grows_none m
+
+  mark_closed : is_unmarked (slice_get (with_mark k m).marks k) ≡ false
+  mark_closed = step (is_unmarked (slice_get m.marks k)) refl
+    where
+      step : (b : Bool) → is_unmarked (slice_get m.marks k) ≡ b → is_unmarked (slice_get (if b then given else m).marks k) ≡ false
+      step true free = not_free (slice_get (slice_set m.marks k true) k) (get_set m.marks k true (free_within m.marks k free))
+      step false closed = closed
+
+pub grows_callees : (all : Bool) (calls : List Call) (m : Marked) → Grows m (with_callees all calls m)
+grows_callees all [] m = grows_none m
+grows_callees all (call ∷ calls) m = step (all || call.in_task) (λ n. grows_callees all calls n)
   where
-    step : (b : Bool) → ((all || call.in_task) && is_unmarked (slice_get marks call.callee)) ≡ b → (if b then Some call.callee else open_callee marks all calls) ≡ Some callee →
-        (open_callee marks all calls ≡ Some callee → Found marks all calls callee) → Found marks all (call ∷ calls) callee
-    step true holds is again =
-        let parts : ((all || call.in_task) ≡ true) × (is_unmarked (slice_get marks call.callee) ≡ true) = both (all || call.in_task) (is_unmarked (slice_get marks call.callee)) holds in
-        let same : call.callee ≡ callee = cc in
-        record { at = 0; call = call; stands = refl; leads = same; counts = parts.0; open_there = subst (λ k. is_unmarked (slice_get marks k) ≡ true) same parts.1 }
-    step false holds is again =
-        let f : Found marks all calls callee = again is in
-        record { at = suc f.at; call = f.call; stands = f.stands; leads = f.leads; counts = f.counts; open_there = f.open_there }
+    step : (b : Bool) → ((n : Marked) → Grows n (with_callees all calls n)) → Grows m (with_callees all calls (if b then with_mark call.callee m else m))
+    step true again = grows_twice m (with_mark call.callee m) (with_callees all calls (with_mark call.callee m)) (grows_mark m call.callee) (again (with_mark call.callee m))
+    step false again = again m
 
-pub none_open : (marks : List Bool) (all : Bool) (calls : List Call) → open_callee marks all calls ≡ None → (i : ℕ) (call : Call) → slice_get calls i ≡ Some call →
-    (all || call.in_task) ≡ true → is_unmarked (slice_get marks call.callee) ≡ false
-none_open marks all [] is i call at counts = cc
-none_open marks all (c ∷ calls) is i call at counts = step ((all || c.in_task) && is_unmarked (slice_get marks c.callee)) refl is i at (λ rest n there. none_open marks all calls rest n call there counts)
+-- no call that counts leads to a function without a mark
+abbrev pub Closed : List Bool → Bool → List Call → Type 0
+Closed marks all calls = (i : ℕ) (call : Call) → slice_get calls i ≡ Some call → (all || call.in_task) ≡ true → is_unmarked (slice_get marks call.callee) ≡ false
+
+pub closed_callees : (all : Bool) (calls : List Call) (m : Marked) → Closed (with_callees all calls m).marks all calls
+closed_callees all [] m i call at counts = cc
+closed_callees all (c ∷ calls) m zero call at counts =
+    let same : c ≡ call = cc in
+    let now : (all || c.in_task) ≡ true = subst (λ (d : Call). (all || d.in_task) ≡ true) (sym same) counts in
+    subst (λ (d : Call). is_unmarked (slice_get (with_callees all (c ∷ calls) m).marks d.callee) ≡ false) same (step (all || c.in_task) now)
   where
-    step : (b : Bool) → ((all || c.in_task) && is_unmarked (slice_get marks c.callee)) ≡ b → (if b then Some c.callee else open_callee marks all calls) ≡ None → (n : ℕ) → slice_get (c ∷ calls) n ≡ Some call →
-        (open_callee marks all calls ≡ None → (n : ℕ) → slice_get calls n ≡ Some call → is_unmarked (slice_get marks call.callee) ≡ false) → is_unmarked (slice_get marks call.callee) ≡ false
-    step true holds is n at again = cc
-    step false holds is zero at again =
-        let same : c ≡ call = cc in
-        subst (λ (d : Call). is_unmarked (slice_get marks d.callee) ≡ false) same
-        (neither (all || c.in_task) (is_unmarked (slice_get marks c.callee)) holds (subst (λ (d : Call). (all || d.in_task) ≡ true) (sym same) counts))
-    step false holds is (suc n) at again = again is n at
+    step : (b : Bool) → b ≡ true → is_unmarked (slice_get (with_callees all calls (if b then with_mark c.callee m else m)).marks c.callee) ≡ false
+    step true now = let g : Grows (with_mark c.callee m) (with_callees all calls (with_mark c.callee m)) = grows_callees all calls (with_mark c.callee m) in g.closed c.callee (mark_closed m c.callee)
+    step false now = cc
+closed_callees all (c ∷ calls) m (suc i) call at counts = closed_callees all calls (if all || c.in_task then with_mark c.callee m else m) i call at counts
 
--- ---- over all functions
+-- ---- marks of functions that tasks call
 
-pub record FoundFrom (marks : List Bool) (k : ℕ) (graph : List (List Call)) (callee : ℕ) : Type 0 where
-  pub caller : ℕ
-  pub calls : List Call
-  pub of_caller : slice_get graph caller ≡ Some calls
-  pub found : Found marks (is_marked (slice_get marks (caller + k))) calls callee
+-- each mark is given rightly, and what waits is marked
+pub record AreGiven (graph : List (List Call)) (m : Marked) : Type 0 where
+  pub each : length m.marks ≡ length graph
+  pub sound : (k : ℕ) → slice_get m.marks k ≡ Some true → IsReached graph k
+  pub held : (i k : ℕ) → slice_get m.waiting i ≡ Some k → slice_get m.marks k ≡ Some true
 
-pub found_from : (marks : List Bool) (k : ℕ) (graph : List (List Call)) (callee : ℕ) → open_from marks k graph ≡ Some callee → FoundFrom marks k graph callee
-found_from marks k [] callee is = cc
-found_from marks k (calls ∷ graph) callee is = step (open_callee marks (is_marked (slice_get marks k)) calls) refl is (λ later. found_from marks (k + 1) graph callee later)
-  where
-    step : (o : Option ℕ) → open_callee marks (is_marked (slice_get marks k)) calls ≡ o → or_later o (open_from marks (k + 1) graph) ≡ Some callee →
-        (open_from marks (k + 1) graph ≡ Some callee → FoundFrom marks (k + 1) graph callee) → FoundFrom marks k (calls ∷ graph) callee
-    step (Some c) here is again =
-        let same : c ≡ callee = cc in
-        let f : Found marks (is_marked (slice_get marks k)) calls callee = found_callee marks (is_marked (slice_get marks k)) calls callee (here ∙ ap (λ n. Some n) same) in
-        record { caller = 0; calls = calls; of_caller = refl; found = subst (λ n. Found marks (is_marked (slice_get marks n)) calls callee) (sym (zero-add k)) f }
-    step None here is again =
-        let f : FoundFrom marks (k + 1) graph callee = again is in
-        let place : f.caller + (k + 1) ≡ suc f.caller + k = omega arith in
-        record { caller = suc f.caller; calls = f.calls; of_caller = f.of_caller; found = subst (λ n. Found marks (is_marked (slice_get marks n)) f.calls callee) place f.found }
+module _ (graph : List (List Call)) where
+  given_mark : (m : Marked) (k : ℕ) → IsReached graph k → AreGiven graph m → AreGiven graph (with_mark k m)
+  given_mark m k reached is = step (is_unmarked (slice_get m.marks k)) refl
+    where
+      step : (b : Bool) → is_unmarked (slice_get m.marks k) ≡ b → AreGiven graph (if b then given m k else m)
+      step false closed = is
+      step true free =
+          let g : Grows m (given m k) = grows_given m k free in
+          let here : slice_get (slice_set m.marks k true) k ≡ Some true = get_set m.marks k true (free_within m.marks k free) in
+          record {
+            each = g.each ∙ is.each;
+            sound = λ j at. elim (eqb_tells k j) [
+              | inl equal ↦ subst (λ n. IsReached graph n) equal.1 reached
+              | inr other ↦ is.sound j (sym (get_set_other m.marks k j true other.1) ∙ at)
+            ];
+            held = λ i j at. elim (last_or m.waiting k i j at) [
+              | inl before ↦ g.kept j (is.held i j before)
+              | inr equal ↦ subst (λ n. slice_get (slice_set m.marks k true) n ≡ Some true) equal here
+            ];
+          }
 
-pub none_from : (marks : List Bool) (k : ℕ) (graph : List (List Call)) → open_from marks k graph ≡ None → (j : ℕ) (calls : List Call) → slice_get graph j ≡ Some calls →
-    open_callee marks (is_marked (slice_get marks (j + k))) calls ≡ None
-none_from marks k [] is j calls at = cc
-none_from marks k (first ∷ graph) is j calls at = step (open_callee marks (is_marked (slice_get marks k)) first) refl is j at (λ rest n there. none_from marks (k + 1) graph rest n calls there)
-  where
-    step : (o : Option ℕ) → open_callee marks (is_marked (slice_get marks k)) first ≡ o → or_later o (open_from marks (k + 1) graph) ≡ None → (n : ℕ) → slice_get (first ∷ graph) n ≡ Some calls →
-        (open_from marks (k + 1) graph ≡ None → (n : ℕ) → slice_get graph n ≡ Some calls → open_callee marks (is_marked (slice_get marks (n + (k + 1)))) calls ≡ None) →
-        open_callee marks (is_marked (slice_get marks (n + k))) calls ≡ None
-    step (Some c) here is n at again = cc
-    step None here is zero at again =
-        let same : first ≡ calls = cc in
-        subst (λ m. open_callee marks (is_marked (slice_get marks m)) calls ≡ None) (sym (zero-add k)) (subst (λ (cs : List Call). open_callee marks (is_marked (slice_get marks k)) cs ≡ None) same here)
-    step None here is (suc n) at again =
-        let place : n + (k + 1) ≡ suc n + k = omega arith in
-        subst (λ m. open_callee marks (is_marked (slice_get marks m)) calls ≡ None) place (again is n at)
+  given_callees : (all : Bool) (calls : List Call) (m : Marked) → ((i : ℕ) (call : Call) → slice_get calls i ≡ Some call → (all || call.in_task) ≡ true → IsReached graph call.callee) →
+      AreGiven graph m → AreGiven graph (with_callees all calls m)
+  given_callees all [] m reached is = is
+  given_callees all (call ∷ calls) m reached is = step (all || call.in_task) refl (λ n given. given_callees all calls n (λ i c at counts. reached (suc i) c at counts) given)
+    where
+      step : (b : Bool) → (all || call.in_task) ≡ b → ((n : Marked) → AreGiven graph n → AreGiven graph (with_callees all calls n)) →
+          AreGiven graph (with_callees all calls (if b then with_mark call.callee m else m))
+      step true counts again = again (with_mark call.callee m) (given_mark m call.callee (reached 0 call refl counts) is)
+      step false counts again = again m is
 
--- ---- the marks
+  -- ---- the functions before the n-th one are looked through for calls in tasks
 
-abbrev pub IsSound : List (List Call) → List Bool → Type 0
-IsSound graph marks = (k : ℕ) → slice_get marks k ≡ Some true → IsReached graph k
+  pub record AreSeeded (n : ℕ) (m : Marked) : Type 0 where
+    pub given : AreGiven graph m
+    pub tasks : (j : ℕ) (calls : List Call) → j < n → slice_get graph j ≡ Some calls → Closed m.marks false calls
+    pub fresh : (k : ℕ) → slice_get m.marks k ≡ Some true → Waits m k
 
-is_true_mark : (o : Option Bool) → is_marked o ≡ true → o ≡ Some true
-is_true_mark None h = cc
-is_true_mark (Some true) h = refl
-is_true_mark (Some false) h = cc
+  -- ---- all are, and the calls of a marked function are followed or it waits
 
-or_cases : (a b : Bool) → (a || b) ≡ true → (a ≡ true) ⊎ (b ≡ true)
-or_cases true b h = inl refl
-or_cases false b h = inr h
+  pub record AreFollowed (m : Marked) : Type 0 where
+    pub given : AreGiven graph m
+    pub tasks : (j : ℕ) (calls : List Call) → slice_get graph j ≡ Some calls → Closed m.marks false calls
+    pub followed : (k : ℕ) (calls : List Call) → slice_get graph k ≡ Some calls → slice_get m.marks k ≡ Some true → Waits m k ⊎ Closed m.marks true calls
 
--- what is found is called by a task
-pub open_reached : (graph : List (List Call)) (marks : List Bool) (callee : ℕ) → IsSound graph marks → open_from marks 0 graph ≡ Some callee → IsReached graph callee × (is_unmarked (slice_get marks callee) ≡ true)
-open_reached graph marks callee sound is =
-    let f : FoundFrom marks 0 graph callee = found_from marks 0 graph callee is in
-    let has : HasCall graph f.caller f.found.call = record { calls = f.calls; at = f.found.at; of_caller = f.of_caller; stands = f.found.stands } in
-    let place : f.caller + 0 ≡ f.caller = omega arith in (
-      subst (λ n. IsReached graph n) f.found.leads
-          (elim (or_cases (is_marked (slice_get marks (f.caller + 0))) f.found.call.in_task f.found.counts) [
-            | inl marked ↦ through f.caller f.found.call has (sound f.caller (subst (λ n. slice_get marks n ≡ Some true) place (is_true_mark (slice_get marks (f.caller + 0)) marked)))
-            | inr task ↦ from_task f.caller f.found.call has task
-          ]),
-      f.found.open_there,
-    )
+  seeded_from : (m : Marked) → AreGiven graph m → m.waiting ≡ [] → ((k : ℕ) → slice_get m.marks k ≡ Some true → ⊥) → AreSeeded 0 m
+  seeded_from m is empty none = record { given = is; tasks = λ j calls before. absurd (omega arith); fresh = λ k at. absurd (none k at) }
 
-pub sound_more : (graph : List (List Call)) (marks : List Bool) (callee : ℕ) → IsSound graph marks → IsReached graph callee → IsSound graph (slice_set marks callee true)
-sound_more graph marks callee sound reached = λ k is. elim (eqb_tells callee k) [
-  | inl same ↦ subst (λ n. IsReached graph n) same.1 reached
-  | inr other ↦ sound k (sym (get_set_other marks callee k true other.1) ∙ is)
-]
+  pub seeded_next : (n : ℕ) (m : Marked) (calls : List Call) → n < length graph → calls ≡ get_or graph n calls → AreSeeded n m → AreSeeded (n + 1) (with_callees false calls m)
+  seeded_next n m calls inside item is =
+      let at : slice_get graph n ≡ Some calls = slice_get_read graph (length graph) n calls refl inside item in
+      let g : Grows m (with_callees false calls m) = grows_callees false calls m in
+      let reached : (i : ℕ) (call : Call) → slice_get calls i ≡ Some call → call.in_task ≡ true → IsReached graph call.callee =
+      λ i call stands task. from_task n call (record { calls = calls; at = i; of_caller = at; stands = stands }) task in
+      record {
+        given = given_callees false calls m reached is.given;
+        tasks = λ j others before there. elim (eqb_tells n j) [
+          | inl equal ↦
+              let same : calls ≡ others = cc in
+              subst (λ (cs : List Call). Closed (with_callees false calls m).marks false cs) same (closed_callees false calls m)
+          | inr other ↦ (λ i call stands counts. g.closed call.callee (is.tasks j others (omega (arith, other.1)) there i call stands counts))
+        ];
+        fresh = λ k there. elim (g.origin k there) [
+          | inl before ↦ (let w : Waits m k = is.fresh k before in record { at = w.at; is = g.waits w.at k w.is })
+          | inr w ↦ w
+        ];
+      }
 
-true_or : (a b : Bool) → a ≡ true → (a || b) ≡ true
-true_or true b h = refl
-true_or false b h = cc
+  pub seeded_all : (n : ℕ) (m : Marked) → length graph ≤ n → AreSeeded n m → AreFollowed m
+  seeded_all n m all is = record {
+    given = is.given;
+    tasks = λ j calls at. is.tasks j calls (let inside : j < length graph = slice_get_within graph j calls at in omega arith) at;
+    followed = λ k calls at there. inl (is.fresh k there);
+  }
 
-or_true : (a b : Bool) → b ≡ true → (a || b) ≡ true
-or_true true b h = refl
-or_true false b h = h
+  -- ---- the calls of one that waits are followed
 
-marked_is : (o : Option Bool) → o ≡ Some true → is_marked o ≡ true
-marked_is None h = cc
-marked_is (Some true) h = refl
-marked_is (Some false) h = cc
+  module _ (m r : Marked) (k : ℕ) (taken : m ≡ record { marks = r.marks; waiting = r.waiting ++ k ∷ [] }) (is : AreFollowed m) where
+    same_marks : m.marks ≡ r.marks
+    same_marks = ap (λ (n : Marked). n.marks) taken
 
--- where nothing is found, each function that a task calls has its mark
-pub all_marked : (graph : List (List Call)) (marks : List Bool) → length marks ≡ length graph → open_from marks 0 graph ≡ None → (k : ℕ) → IsReached graph k → k < length graph → slice_get marks k ≡ Some true
-all_marked graph marks each none k (from_task caller call has task) inside =
-    marked_within marks call.callee (omega arith)
-    (none_open marks (is_marked (slice_get marks (caller + 0))) has.calls (none_from marks 0 graph none caller has.calls has.of_caller) has.at call has.stands (or_true (is_marked (slice_get marks (caller + 0))) call.in_task task))
-all_marked graph marks each none k (through caller call has reached) inside =
-    let there : slice_get marks caller ≡ Some true = all_marked graph marks each none caller reached (slice_get_within graph caller has.calls has.of_caller) in
-    let place : caller + 0 ≡ caller = omega arith in
-    let marked : is_marked (slice_get marks (caller + 0)) ≡ true = marked_is (slice_get marks (caller + 0)) (subst (λ n. slice_get marks n ≡ Some true) (sym place) there) in
-    marked_within marks call.callee (omega arith)
-    (none_open marks (is_marked (slice_get marks (caller + 0))) has.calls (none_from marks 0 graph none caller has.calls has.of_caller) has.at call has.stands (true_or (is_marked (slice_get marks (caller + 0))) call.in_task marked))
+    same_waiting : m.waiting ≡ r.waiting ++ k ∷ []
+    same_waiting = ap (λ (n : Marked). n.waiting) taken
+
+    pub taken_marked : slice_get m.marks k ≡ Some true
+    taken_marked = is.given.held (length r.waiting) k (ap (λ (ws : List ℕ). slice_get ws (length r.waiting)) same_waiting ∙ at_end r.waiting k)
+
+    pub taken_within : k < length graph
+    taken_within = let inside : k < length m.marks = slice_get_within m.marks k true taken_marked in omega (arith, is.given.each)
+
+    given_rest : AreGiven graph r
+    given_rest = record {
+      each = ap (λ (marks : List Bool). length marks) (sym same_marks) ∙ is.given.each;
+      sound = λ j at. is.given.sound j (ap (λ (marks : List Bool). slice_get marks j) same_marks ∙ at);
+      held = λ i j at. ap (λ (marks : List Bool). slice_get marks j) (sym same_marks) ∙ is.given.held i j (ap (λ (ws : List ℕ). slice_get ws i) same_waiting ∙ get_front r.waiting (k ∷ []) i j at);
+    }
+
+    waits_rest : (j : ℕ) → Waits m j → Waits r j ⊎ (k ≡ j)
+    waits_rest j w = elim (last_or r.waiting k w.at j (ap (λ (ws : List ℕ). slice_get ws w.at) (sym same_waiting) ∙ w.is)) [
+      | inl before ↦ inl (record { at = w.at; is = before })
+      | inr equal ↦ inr equal
+    ]
+
+    closed_rest : (all : Bool) (calls : List Call) → Closed m.marks all calls → Closed r.marks all calls
+    closed_rest all calls closed = subst (λ (marks : List Bool). Closed marks all calls) same_marks closed
+
+    module _ (calls : List Call) (item : calls ≡ get_or graph k calls) where
+      of_taken : slice_get graph k ≡ Some calls
+      of_taken = slice_get_read graph (length graph) k calls refl taken_within item
+
+      after : Marked
+      after = with_callees true calls r
+
+      grown : Grows r after
+      unfolding after
+      grown = grows_callees true calls r
+
+      closed_more : (all : Bool) (others : List Call) → Closed r.marks all others → Closed after.marks all others
+      closed_more all others closed = λ i call stands counts. grown.closed call.callee (closed i call stands counts)
+
+      given_after : AreGiven graph after
+      unfolding after
+      given_after = given_callees true calls r (λ i call stands counts. through k call (record { calls = calls; at = i; of_caller = of_taken; stands = stands }) (is.given.sound k taken_marked)) given_rest
+
+      taken_closed : (others : List Call) → slice_get graph k ≡ Some others → Closed after.marks true others
+      unfolding after
+      taken_closed others at =
+          let same : calls ≡ others = let here : slice_get graph k ≡ Some calls = of_taken in cc in
+          subst (λ (cs : List Call). Closed (with_callees true calls r).marks true cs) same (closed_callees true calls r)
+
+      waits_more : (j : ℕ) → Waits r j → Waits after j
+      waits_more j w = record { at = w.at; is = grown.waits w.at j w.is }
+
+      after_marked : (j : ℕ) (others : List Call) → slice_get graph j ≡ Some others → slice_get after.marks j ≡ Some true → Waits after j ⊎ Closed after.marks true others
+      after_marked j others at there = elim (grown.origin j there) [
+        | inr w ↦ inl w
+        | inl before ↦ elim (is.followed j others at (ap (λ (marks : List Bool). slice_get marks j) same_marks ∙ before)) [
+          | inr closed ↦ inr (closed_more true others (closed_rest true others closed))
+          | inl w ↦ elim (waits_rest j w) [
+            | inl rest ↦ inl (waits_more j rest)
+            | inr equal ↦ inr (taken_closed others (ap (λ n. slice_get graph n) equal ∙ at))
+          ]
+        ]
+      ]
+
+      pub followed_next : AreFollowed (with_callees true calls r)
+      unfolding after
+      followed_next = record { given = given_after; tasks = λ j others at. closed_more false others (closed_rest false others (is.tasks j others at)); followed = after_marked }
+
+      pub followed_less : ahead (with_callees true calls r) < ahead m
+      unfolding after
+      followed_less = omega (arith, grown.same, ap unmarked same_marks, ap length same_waiting, length-append r.waiting (k ∷ []))
+
+  -- ---- where none waits, each function that a task calls has its mark
+
+  pub all_marked : (m : Marked) → AreFollowed m → m.waiting ≡ [] → (k : ℕ) → IsReached graph k → k < length graph → slice_get m.marks k ≡ Some true
+  all_marked m is none k (from_task caller call has task) inside =
+      marked_within m.marks call.callee (omega (arith, is.given.each)) (is.tasks caller has.calls has.of_caller has.at call has.stands task)
+  all_marked m is none k (through caller call has reached) inside =
+      let there : slice_get m.marks caller ≡ Some true = all_marked m is none caller reached (slice_get_within graph caller has.calls has.of_caller) in
+      marked_within m.marks call.callee (omega (arith, is.given.each)) (elim (is.followed caller has.calls has.of_caller there) [
+        | inl w ↦ (let e : slice_get [] w.at ≡ Some caller = subst (λ (ws : List ℕ). slice_get ws w.at ≡ Some caller) none w.is in cc)
+        | inr closed ↦ closed has.at call has.stands refl
+      ])
+
+  pub marked_all : (m : Marked) (marks : List Bool) → AreFollowed m → m.waiting ≡ [] → marks ≡ m.marks → AreMarks graph marks
+  marked_all m marks is none same = rw same (record { each = is.given.each; sound = is.given.sound; complete = all_marked m is none })

@@ -7,3 +7,5 @@ pub mod StepLemmas
 pub mod CallLemmas
 pub mod VerdictLemmas
 pub mod LawLemmas
+pub mod KindLemmas
+pub mod LevelLemmas

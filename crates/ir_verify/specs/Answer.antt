@@ -3,7 +3,8 @@ use Rattle.std.specs.Prelude.{◌≡◌, Result, Ok, Err}
 use Rattle.ir_forms.specs.declared.ops.Module.{Module}
 use Rattle.ir_verify.specs.declared.outcome.VerifyFault.{VerifyFault}
 use Rattle.ir_verify.specs.declared.outcome.VerifyFault.TheVariants.{Fault, OutOfMemory}
-use Rattle.ir_verify.specs.Verdict.{IsSound, IsFirst, level_of}
+use Rattle.ir_verify.specs.Verdict.{IsSound, IsFirst}
+use Rattle.ir_verify.specs.Levels.{level_of}
 use Rattle.ir_verify.specs.Verified.{Leveled}
 
 -- the module breaks no rule and is the answer, at its least level; or this is the first rule that it breaks; or there

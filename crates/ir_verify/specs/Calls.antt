@@ -1,13 +1,11 @@
 -- Which functions tasks call.
-use Rattle.std.specs.Prelude.{◌≡◌, ◌<◌, ℕ, ◌+◌, ◌&&◌, ◌||◌, Bool, true, false, List, [], ◌∷◌, ◌++◌, length, map, Option, Some, None, slice_get, if◌then◌else◌}
+use Rattle.std.specs.Prelude.{◌≡◌, ◌<◌, ℕ, ◌||◌, Bool, true, false, List, [], ◌∷◌, ◌++◌, length, map, Option, Some, None, slice_get, slice_set, if◌then◌else◌}
 use Rattle.ir_forms.specs.declared.ops.Attr.{Attr}
 use Rattle.ir_forms.specs.declared.ops.Attr.TheVariants.{Callee}
 use Rattle.ir_forms.specs.declared.ops.Op.{Op}
 use Rattle.ir_forms.specs.declared.ops.Func.{Func}
 use Rattle.ir_forms.specs.Ops.{attr_of}
 use Rattle.ir_verify.specs.declared.calls.Call.{Call}
-use Rattle.ir_verify.specs.declared.form.Form.{Form}
-use Rattle.ir_verify.specs.declared.form.Form.TheVariants.{TryCall}
 use Rattle.ir_verify.specs.declared.place.Nest.{Nest}
 use Rattle.ir_verify.specs.declared.place.Nest.TheVariants.{InFunction}
 use Rattle.ir_verify.specs.Breaks.{is_call}
@@ -27,18 +25,13 @@ abbrev pub callee_place : List Func → Attr → Option ℕ
 callee_place funcs (Callee name) = first_named funcs name
 callee_place funcs _ = None
 
--- `aio.try_call`
-abbrev pub is_try : Form → Bool
-is_try TryCall = true
-is_try _ = false
-
-abbrev pub call_to : Option ℕ → Nest → Form → List Call
-call_to None nest f = []
-call_to (Some callee) nest f = record { callee = callee; in_task = is_in_task nest; tries = is_try f } ∷ []
+abbrev pub call_to : Option ℕ → Nest → List Call
+call_to None nest = []
+call_to (Some callee) nest = record { callee = callee; in_task = is_in_task nest } ∷ []
 
 -- the call that an operation is, if it names a function
 abbrev pub call_of : List Func → Op → Nest → List Call
-call_of funcs op nest = if is_call (form op) then call_to (callee_place funcs (attr_of op)) nest (form op) else []
+call_of funcs op nest = if is_call (form op) then call_to (callee_place funcs (attr_of op)) nest else []
 
 abbrev pub call_at : List Func → Spot → List Call
 call_at funcs s = call_of funcs s.place.op s.place.around.nest
@@ -78,26 +71,26 @@ pub record AreMarks (graph : List (List Call)) (marks : List Bool) : Type 0 wher
   pub sound : (k : ℕ) → slice_get marks k ≡ Some true → IsReached graph k
   pub complete : (k : ℕ) → IsReached graph k → k < length graph → slice_get marks k ≡ Some true
 
--- ---- a call that shows a function without a mark
+-- ---- marking
 
 abbrev pub is_unmarked : Option Bool → Bool
 is_unmarked (Some false) = true
 is_unmarked _ = false
 
--- the callee of the first of these calls that counts and leads to an unmarked function
-abbrev pub open_callee : List Bool → Bool → List Call → Option ℕ
-open_callee marks all [] = None
-open_callee marks all (call ∷ calls) = if (all || call.in_task) && is_unmarked (slice_get marks call.callee) then Some call.callee else open_callee marks all calls
-
 abbrev pub is_marked : Option Bool → Bool
 is_marked (Some true) = true
 is_marked _ = false
 
-abbrev pub or_later : Option ℕ → Option ℕ → Option ℕ
-or_later (Some k) later = Some k
-or_later None later = later
+-- the marks so far, and the marked functions whose calls are still to be followed
+pub record Marked : Type 0 where
+  pub marks : List Bool
+  pub waiting : List ℕ
 
--- the same over the functions from the place k on
-abbrev pub open_from : List Bool → ℕ → List (List Call) → Option ℕ
-open_from marks k [] = None
-open_from marks k (calls ∷ graph) = or_later (open_callee marks (is_marked (slice_get marks k)) calls) (open_from marks (k + 1) graph)
+-- a function without a mark gets one, and waits
+abbrev pub with_mark : ℕ → Marked → Marked
+with_mark k m = if is_unmarked (slice_get m.marks k) then record { marks = slice_set m.marks k true; waiting = m.waiting ++ k ∷ [] } else m
+
+-- what these calls name is marked: all of it, or what those in tasks and parallel bodies name
+abbrev pub with_callees : Bool → List Call → Marked → Marked
+with_callees all [] m = m
+with_callees all (call ∷ calls) m = with_callees all calls (if all || call.in_task then with_mark call.callee m else m)

@@ -5,6 +5,7 @@ pub mod Calls
 pub mod Faults
 pub mod Forms
 pub mod Laws
+pub mod Levels
 pub mod Names
 pub mod Places
 pub mod Rules

@@ -1,12 +1,9 @@
 -- The verdict on a module: its earliest fault.
-use Rattle.std.specs.Prelude.{◌≡◌, ℕ, ◌+◌, ◌==◌, ◌||◌, not, Bool, true, false, List, [], ◌∷◌, Option, Some, None, slice_get, if◌then◌else◌}
+use Rattle.std.specs.Prelude.{◌≡◌, ℕ, ◌+◌, ◌==◌, ◌||◌, not, Bool, true, false, List, [], ◌∷◌, Option, Some, None, slice_get}
 use Rattle.ir_forms.specs.declared.ops.Func.{Func}
 use Rattle.ir_forms.specs.declared.ops.ValueNo.{ValueNo}
 use Rattle.ir_forms.specs.declared.types.Ty.{Ty}
 use Rattle.ir_forms.specs.Ops.{ops_of}
-use Rattle.op_table.specs.declared.rows.Level.{Level}
-use Rattle.op_table.specs.declared.rows.Level.TheVariants.{Source, Split}
-use Rattle.ir_verify.specs.declared.calls.Call.{Call}
 use Rattle.ir_verify.specs.declared.fault.Broken.{Broken}
 use Rattle.ir_verify.specs.declared.fault.VerifyKind.{VerifyKind}
 use Rattle.ir_verify.specs.declared.fault.VerifyKind.TheVariants.{Undefined, Terminator, AsyncInMemref}
@@ -86,15 +83,3 @@ pub record IsFirst (funcs : List Func) (b : Broken) : Type 0 where
 abbrev pub IsVerdict : List Func → Option Broken → Type 0
 IsVerdict funcs None = IsSound funcs
 IsVerdict funcs (Some b) = IsFirst funcs b
-
--- ---- the level
-
-abbrev pub call_tries : ℕ → Call → Bool
-call_tries i call = call.tries
-
-abbrev pub func_tries : ℕ → List Call → Bool
-func_tries k calls = some_at call_tries calls
-
--- `aio.try_call` stands from level Split on, and all else from level Source on
-abbrev pub level_of : List Func → Level
-level_of funcs = if some_at func_tries (graph_of funcs) then Split else Source

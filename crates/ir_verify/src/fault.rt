@@ -1,6 +1,6 @@
 //! The kinds of faults, and which of two faults comes first.
 ghost use Rattle.std.specs.Prelude.{◌≡◌, ℕ};
-ghost use Rattle.ir_verify.specs.Faults.{rank, is_before, noted};
+ghost use Rattle.ir_verify.specs.Faults.{rank, name_of_kind, is_before, noted};
 
 /// What is wrong with an operation. Of several faults of one operation the first in this order is
 /// answered.
@@ -31,6 +31,21 @@ pub struct Broken {
 }
 
 impl VerifyKind {
+    /// The kind's name, as messages have it. It takes no memory.
+    pub fn name(self) -> &'static str
+        ensures { result.now ≡ name_of_kind self }
+    {
+        match self {
+            VerifyKind::Undefined => "Undefined",
+            VerifyKind::TypeMismatch => "TypeMismatch",
+            VerifyKind::Terminator => "Terminator",
+            VerifyKind::UnknownFunc => "UnknownFunc",
+            VerifyKind::Arity => "Arity",
+            VerifyKind::AsyncInMemref => "AsyncInMemref",
+            VerifyKind::BlockingAwait => "BlockingAwait",
+        }
+    }
+
     fn rank(self) -> u32
         ensures { result ≡ rank self }
     {

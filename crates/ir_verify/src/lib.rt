@@ -8,6 +8,7 @@ mod entry;
 mod fault;
 mod form;
 pub mod laws;
+mod level;
 mod names;
 mod outcome;
 mod place;

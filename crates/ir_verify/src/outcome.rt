@@ -2,7 +2,8 @@
 ghost use Rattle.std.specs.Prelude.{◌≡◌, IfOk, IfErr, Ok};
 ghost use Rattle.ir_forms.specs.declared.types.Ty.TheVariants.{Untyped};
 ghost use Rattle.ir_verify.specs.Answer.{IsAnswer};
-ghost use Rattle.ir_verify.specs.Verdict.{IsVerdict, level_of};
+ghost use Rattle.ir_verify.specs.Levels.{level_of};
+ghost use Rattle.ir_verify.specs.Verdict.{IsVerdict};
 
 use crate::fault::{Broken, VerifyKind};
 use crate::verdict::judge;

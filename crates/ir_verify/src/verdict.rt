@@ -3,12 +3,14 @@ ghost use Rattle.std.specs.Prelude.{◌≡◌, IfOk};
 ghost use Rattle.ir_forms.specs.declared.types.Ty.TheVariants.{Untyped};
 ghost use Rattle.ir_verify.specs.Breaks.{some_at};
 ghost use Rattle.ir_verify.specs.Calls.{AreMarks, graph_of};
-ghost use Rattle.ir_verify.specs.Verdict.{func_breaks, is_place, noted_head, noted_func, noted_funcs, IsNoted, param_has_async, type_has_async, call_tries, func_tries, level_of};
+ghost use Rattle.ir_verify.specs.Verdict.{func_breaks, is_place, noted_head, noted_func, noted_funcs, IsNoted, param_has_async, type_has_async};
+ghost use Rattle.ir_verify.specs.Levels.{level_of};
 
 use crate::breaks::lacks_end;
 use crate::calls::{Call, is_marked, marks};
 use crate::fault::{Broken, VerifyKind, noted};
 use crate::form::Form;
+use crate::level::level_of;
 use crate::names::Names;
 use crate::types::has_async_cells;
 use crate::walk::walk_func;
@@ -124,30 +126,6 @@ fn noted_funcs<'a>(
     Ok(best)
 }
 
-fn some_tries(calls: &[Call]) -> bool
-    ensures { result ≡ some_at call_tries calls.now }
-{
-    for (place, call) in calls.iter().enumerate() {
-        let _place = place;
-        if call.tries {
-            return true;
-        }
-    }
-    false
-}
-
-fn some_func_tries(graph: &[Items<Call>]) -> bool
-    ensures { result ≡ some_at func_tries graph.now }
-{
-    for (place, calls) in graph.iter().enumerate() {
-        let _place = place;
-        if some_tries(calls.as_slice()) {
-            return true;
-        }
-    }
-    false
-}
-
 /// The earliest fault of a module's functions, if there is one, and their level.
 pub(crate) fn judge<'a>(
     alloc: Global,
@@ -162,10 +140,5 @@ pub(crate) fn judge<'a>(
     let graph = graph_of(alloc, &names, untyped, funcs)?;
     let marks = marks(alloc, graph.as_slice())?;
     let best = noted_funcs(alloc, &names, untyped, funcs, marks.as_slice())?;
-    let level = if some_func_tries(graph.as_slice()) {
-        Level::Split
-    } else {
-        Level::Source
-    };
-    Ok((best, level))
+    Ok((best, level_of(funcs)))
 }

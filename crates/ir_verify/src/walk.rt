@@ -69,9 +69,8 @@ fn define_params<'a>(scope: &mut Scope<'a>, params: &'a [(ValueNo, Ty)]) -> Resu
 fn note_call(calls: &mut Vec<Call>, names: &Names, op: &Op, nest: Nest) -> Result<(), AllocError>
     ensures { OnOk result (calls.new.items ≡ calls.old.items ++ call_of names.now op.now nest) }
 {
-    let form = Form::of(op.kind);
-    if is_call(form) {
-        if let Some(call) = call_to(names, &op.attr, nest, form) {
+    if is_call(Form::of(op.kind)) {
+        if let Some(call) = call_to(names, &op.attr, nest) {
             calls.push(call)?;
         }
     }
