@@ -1,5 +1,5 @@
 -- Where the machine refuses a token, the first fault of the text stands.
-use Rattle.std.proofs.Common.{◌≡◌, ℕ, Bool, true, false, cond, List, [], ◌∷◌, ◌++◌, Option, Some, None, Result, Ok, Err, refl, sym, ap, ◌∙◌, subst}
+use Rattle.std.proofs.Common.{◌≡◌, true, List, [], ◌∷◌, ◌++◌, Option, Some, None, Ok, Err, refl, sym, ap, ◌∙◌, subst}
 use Rattle.module_grammar.specs.declared.symbols.Class.{Class}
 use Rattle.module_grammar.specs.declared.symbols.Symbol.{Symbol}
 use Rattle.module_grammar.specs.Engine.{Table, Place, Leads, step, close, closed, run, Begins, IsRefused, IsFirstFault, Endings, CanEnd, good_then}

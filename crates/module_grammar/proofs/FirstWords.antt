@@ -1,12 +1,11 @@
 -- The first words of the forms of operations.
-use Rattle.std.proofs.Common.{◌≡◌, Bool, true, false, List, [], ◌∷◌, refl, sym, ap, ◌∙◌}
+use Rattle.std.proofs.Common.{◌≡◌, Bool, true, false, List, [], ◌∷◌, refl}
 use Rattle.op_table.specs.declared.kind.OpKind.{OpKind}
 use Rattle.op_table.specs.declared.rows.Level.{Level}
 use Rattle.op_table.specs.declared.rows.Level.TheVariants.{Source, Checked, Split, Low}
 use Rattle.module_grammar.specs.declared.symbols.Symbol.{Symbol}
 use Rattle.module_grammar.specs.declared.sought.Sought.{Sought}
 use Rattle.module_grammar.specs.declared.sought.Sought.TheVariants as sought
-use Rattle.module_grammar.specs.declared.symbols.Class.TheVariants as class
 use Rattle.module_grammar.specs.Rules.{forms_then, kinds_at}
 use Rattle.module_grammar.specs.Faults.{seeks, any_first}
 

@@ -1,11 +1,10 @@
 -- What limits count never falls while a text is read.
-use Rattle.std.proofs.Common.{◌≡◌, ◌≤◌, ℕ, zero, suc, ◌+◌, max, Bool, true, false, cond, List, [], ◌∷◌, ◌++◌, length, Option, Some, None, refl, sym, ap, ◌∙◌, subst, arith, le_refl, le_trans}
+use Rattle.std.proofs.Common.{◌≤◌, ℕ, List, [], ◌∷◌, ◌++◌, Option, Some, None, arith, le_refl, le_trans}
 use Rattle.op_table.specs.declared.kind.OpKind.{OpKind}
 use Rattle.op_table.specs.declared.rows.Level.{Level}
 use Rattle.module_grammar.specs.declared.symbols.Act.{Act}
 use Rattle.module_grammar.specs.declared.symbols.Act.TheVariants as act
 use Rattle.module_grammar.specs.declared.symbols.Symbol.{Symbol}
-use Rattle.module_grammar.specs.declared.symbols.Symbol.TheVariants as symbol
 use Rattle.module_grammar.specs.Engine.{Leads}
 use Rattle.module_grammar.specs.declared.state.Tok.{Tok}
 use Rattle.module_grammar.specs.declared.state.Name.{Name}

@@ -1,16 +1,15 @@
 -- The line of a form is found by its name.
-use Rattle.std.proofs.Common.{◌≡◌, ℕ, Bool, true, false, cond, ◌&&◌, List, [], ◌∷◌, ◌++◌, Option, Some, None, refl, sym, ap, ◌∙◌, append_assoc}
+use Rattle.std.proofs.Common.{◌≡◌, true, false, List, [], ◌∷◌, ◌++◌, None, refl, append_assoc}
 use Rattle.op_table.specs.declared.kind.OpKind.{OpKind}
 use Rattle.op_table.specs.declared.rows.Level.{Level}
-use Rattle.module_grammar.specs.declared.symbols.Class.TheVariants as class
 use Rattle.module_grammar.specs.declared.symbols.Act.TheVariants as act
 use Rattle.module_grammar.specs.declared.symbols.Symbol.{Symbol}
 use Rattle.module_grammar.specs.declared.symbols.Symbol.TheVariants as symbol
 use Rattle.module_grammar.specs.declared.state.Tok.{Tok}
 use Rattle.module_grammar.specs.declared.state.State.{State}
-use Rattle.module_grammar.specs.Engine.{Line, first_line}
+use Rattle.module_grammar.specs.Engine.{first_line}
 use Rattle.module_grammar.specs.Tokens.{is_name_of, kind_among}
-use Rattle.module_grammar.specs.Rules.{grammar, is_of, allows, is_name, forms_then, form_or_none, form_chosen, kinds_at, doing}
+use Rattle.module_grammar.specs.Rules.{grammar, is_of, allows, is_name, forms_then, form_or_none, form_chosen, kinds_at}
 use Rattle.module_grammar.proofs.Runs.{by_test}
 
 named-lines : (level : Level) (before ss : List Symbol) (ks : List OpKind) (s : State) (t : Tok) → is_name t.kind ≡ true

@@ -1,5 +1,5 @@
 -- One token more of a walk, and its end.
-use Rattle.std.proofs.Common.{◌≡◌, ◌≤◌, ◌<◌, ℕ, ◌+◌, length, get_or, take, drop, add-one, drop-cons, Bool, true, false, cond, ◌||◌, List, [], ◌∷◌, ◌++◌, Option, Some, None, Result, Ok, Err, IfOk, MatchBool, option_map, nat_lt, refl, sym, ap, ◌∙◌, subst}
+use Rattle.std.proofs.Common.{◌≡◌, ◌<◌, ℕ, ◌+◌, length, get_or, drop, add-one, drop-cons, Bool, true, false, cond, ◌||◌, List, [], ◌∷◌, ◌++◌, Option, Some, None, Result, Ok, Err, IfOk, MatchBool, option_map, nat_lt, refl, sym, ap, ◌∙◌, subst}
 use Rattle.op_table.specs.declared.rows.Level.{Level}
 use Rattle.op_table.specs.declared.rows.Level.TheVariants.{Source}
 use Rattle.module_grammar.specs.declared.symbols.Symbol.{Symbol}

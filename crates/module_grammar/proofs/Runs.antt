@@ -1,11 +1,11 @@
 -- What the symbols lead over, runs; and what runs, they lead over.
-use Rattle.std.proofs.Common.{◌≡◌, ℕ, Bool, true, false, cond, List, [], ◌∷◌, ◌++◌, Option, Some, None, Result, Ok, Err, refl, sym, ap, ◌∙◌, subst}
+use Rattle.std.proofs.Common.{◌≡◌, Bool, true, false, cond, List, [], ◌∷◌, ◌++◌, Option, Some, None, Ok, Err, refl, sym, ap, ◌∙◌, subst}
 use Rattle.module_grammar.specs.declared.symbols.Class.{Class}
 use Rattle.module_grammar.specs.declared.symbols.Rule.{Rule}
 use Rattle.module_grammar.specs.declared.symbols.Act.{Act}
 use Rattle.module_grammar.specs.declared.symbols.Symbol.{Symbol}
 use Rattle.module_grammar.specs.declared.symbols.Symbol.TheVariants as symbol
-use Rattle.module_grammar.specs.Engine.{Line, Table, Place, Leads, line_at, first_line, BeginsNone, step, close, closed, run}
+use Rattle.module_grammar.specs.Engine.{Line, Table, Place, Leads, line_at, BeginsNone, step, close, closed, run}
 
 -- ---- one token of a run
 

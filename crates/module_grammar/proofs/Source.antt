@@ -1,5 +1,5 @@
 -- The table of the source grammar can end.
-use Rattle.std.proofs.Common.{◌≡◌, ℕ, zero, suc, ◌+◌, ◌<◌, ◌≤◌, Bool, true, false, cond, not, ◌&&◌, ◌||◌, eqb, List, [], ◌∷◌, ◌++◌, length, Option, Some, None, refl, sym, ap, ◌∙◌, subst, arith, eqb-true, eq-eqb, length-append, true≢false}
+use Rattle.std.proofs.Common.{◌≡◌, ℕ, ◌≤◌, Bool, true, false, cond, not, ◌&&◌, ◌||◌, List, [], ◌∷◌, ◌++◌, length, Some, None, refl, sym, ap, subst, arith, eqb-true, eq-eqb, length-append}
 use Rattle.op_table.specs.declared.rows.Level.{Level}
 use Rattle.op_table.specs.declared.rows.Level.TheVariants.{Source, Checked, Split, Low}
 use Rattle.module_grammar.specs.declared.symbols.Class.{Class}
@@ -10,11 +10,10 @@ use Rattle.module_grammar.specs.declared.symbols.Rule.{Rule}
 use Rattle.module_grammar.specs.declared.symbols.Rule.TheVariants as rule
 use Rattle.std.specs.Str.{bytes_eq}
 use Rattle.std.proofs.lemmas.Slice.Eq.{bytes_eq-Decides}
-use Rattle.mlir_lex.specs.declared.kinds.TokenKind.TheVariants as kind
 use Rattle.module_grammar.specs.declared.symbols.Act.TheVariants as act
 use Rattle.module_grammar.specs.declared.symbols.Symbol.{Symbol}
 use Rattle.module_grammar.specs.declared.symbols.Symbol.TheVariants as symbol
-use Rattle.module_grammar.specs.Engine.{Line, Table, Leads, line_at, first_line, Endings, all_good, ends_within, Done, CanEnd}
+use Rattle.module_grammar.specs.Engine.{Line, Leads, line_at, first_line, all_good, ends_within, Done, CanEnd}
 use Rattle.module_grammar.specs.declared.state.Tok.{Tok}
 use Rattle.module_grammar.specs.declared.state.Name.{Name}
 use Rattle.module_grammar.specs.declared.state.State.{State}
@@ -23,7 +22,7 @@ use Rattle.module_grammar.specs.declared.state.Entry.TheVariants as entry
 use Rattle.module_grammar.specs.Tokens.{number_of, type_of, memref_type}
 use Rattle.module_grammar.specs.State.{is_named, param_names, is_wide, entry_after, does}
 use Rattle.module_grammar.specs.Rules.{grammar, is_of, allows, lines, may_end}
-use Rattle.module_grammar.specs.Endings.{endings, usable, is_dict, tok, longer, follow, same_class, same_key, is_among, sample, plain_sample, start, start_class}
+use Rattle.module_grammar.specs.Endings.{endings, usable, is_dict, longer, follow, same_class, same_key, is_among, sample, plain_sample, start}
 use Rattle.module_grammar.proofs.Runs.{by_test}
 use Rattle.module_grammar.proofs.Ends.{and-left, and-right}
 

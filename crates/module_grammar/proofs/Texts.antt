@@ -1,17 +1,17 @@
 -- The laws of the grammar, from those of the table.
-use Rattle.std.proofs.Common.{◌≡◌, true, List, [], ◌∷◌, ◌++◌, Result, Ok, Err, refl, sym, ap, ◌∙◌, subst}
+use Rattle.std.proofs.Common.{◌≡◌, true, List, [], ◌∷◌, ◌++◌, Result, Ok, Err, refl, sym, ap, ◌∙◌}
 use Rattle.op_table.specs.declared.rows.Level.{Level}
 use Rattle.op_table.specs.declared.rows.Level.TheVariants.{Source, Checked, Split, Low}
 use Rattle.ir_forms.specs.declared.ops.Module.{Module}
 use Rattle.module_grammar.specs.declared.symbols.Class.TheVariants as class
-use Rattle.module_grammar.specs.Engine.{Leads, run, IsFirstFault, Begins, IsRefused, good_then}
+use Rattle.module_grammar.specs.Engine.{run, IsFirstFault, Begins, IsRefused, good_then}
 use Rattle.module_grammar.specs.declared.state.Tok.{Tok}
 use Rattle.module_grammar.specs.Tokens.{number_of, type_of, memref_type}
 use Rattle.module_grammar.specs.declared.state.State.{State}
 use Rattle.module_grammar.specs.State.{at_start, module_of}
 use Rattle.module_grammar.specs.Rules.{grammar, is_of, allows}
 use Rattle.module_grammar.specs.Endings.{endings}
-use Rattle.module_grammar.specs.Texts.{whole, IsText, BeginsText, DoesntFit, IsFault, finished, reading, ReadsEachText, ReadsTextsAlone, HasOneModule, FindsFirstFault}
+use Rattle.module_grammar.specs.Texts.{whole, IsText, BeginsText, DoesntFit, IsFault, finished, ReadsEachText, ReadsTextsAlone, HasOneModule, FindsFirstFault}
 use Rattle.module_grammar.proofs.Runs.{leads-run, run-leads}
 use Rattle.module_grammar.proofs.FirstFault.{fault-at}
 use Rattle.module_grammar.proofs.Source.{can-end}

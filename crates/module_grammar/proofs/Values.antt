@@ -1,5 +1,5 @@
 -- One more value of a name.
-use Rattle.std.proofs.Common.{◌≡◌, ◌<◌, ℕ, zero, suc, ◌+◌, ◌-◌, List, [], ◌∷◌, ◌++◌, refl, sym, ap, ◌∙◌, append_assoc, arith}
+use Rattle.std.proofs.Common.{◌≡◌, ◌<◌, ℕ, suc, ◌+◌, ◌-◌, List, [], ◌∷◌, ◌++◌, refl, append_assoc, arith}
 use Rattle.ir_forms.specs.declared.ops.ValueNo.{ValueNo}
 use Rattle.module_grammar.specs.State.{value, number_up, counted_from}
 

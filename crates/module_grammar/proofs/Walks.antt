@@ -1,11 +1,10 @@
 -- A text within the limits is walked to its end, and what is walked is such a text.
-use Rattle.std.proofs.Common.{◌≡◌, ◌≤◌, ℕ, Bool, true, false, cond, List, [], ◌∷◌, ◌++◌, Option, Some, None, Result, Ok, Err, nat_lt, refl, sym, ap, ◌∙◌, subst, arith, le-ltb, ltb-false}
+use Rattle.std.proofs.Common.{◌≡◌, ◌≤◌, ℕ, true, cond, List, [], ◌∷◌, ◌++◌, Option, Some, None, Result, Ok, Err, nat_lt, refl, sym, ap, ◌∙◌, subst, arith, le-ltb, ltb-false}
 use Rattle.op_table.specs.declared.rows.Level.{Level}
 use Rattle.ir_forms.specs.declared.ops.Module.{Module}
 use Rattle.module_grammar.specs.declared.symbols.Symbol.{Symbol}
 use Rattle.module_grammar.specs.declared.symbols.Symbol.TheVariants as symbol
 use Rattle.module_grammar.specs.declared.faults.TextLimits.{TextLimits}
-use Rattle.module_grammar.specs.declared.faults.Limited.TheVariants as limited
 use Rattle.module_grammar.specs.declared.faults.GrammarFault.{GrammarFault}
 use Rattle.module_grammar.specs.declared.faults.GrammarFault.TheVariants as fault
 use Rattle.module_grammar.specs.declared.symbols.Class.TheVariants as class
@@ -16,13 +15,13 @@ use Rattle.module_grammar.specs.State.{at_start, module_of, does}
 use Rattle.module_grammar.specs.Rules.{grammar}
 use Rattle.module_grammar.specs.Endings.{endings}
 use Rattle.module_grammar.specs.Texts.{whole}
-use Rattle.module_grammar.specs.Faults.{IsWithin, IsTextWithin, limit_passed, op_place, value_place, refusal, settled, ended, walk, module_or, parsed, reached, IsCause, HasFault, AcceptsExactly, NamesFirstFault}
+use Rattle.module_grammar.specs.Faults.{IsWithin, IsTextWithin, limit_passed, refusal, settled, ended, walk, module_or, reached, IsCause, HasFault, AcceptsExactly, NamesFirstFault}
 use Rattle.module_grammar.proofs.Ends.{step-keeps, completes}
 use Rattle.module_grammar.proofs.FirstFault.{begins-after, begins-before}
 use Rattle.module_grammar.proofs.Source.{can-end}
 use Rattle.module_grammar.proofs.Texts.{whole-good}
 use Rattle.module_grammar.proofs.Runs.{by_test, by_option, leads-run, run-leads, step-leads, run-act, run-some, run-none}
-use Rattle.module_grammar.proofs.Grows.{Grew, does-grew, grew-both, stays, leads-grew}
+use Rattle.module_grammar.proofs.Grows.{Grew, leads-grew}
 
 -- ---- the actions that stand first
 

@@ -1,5 +1,5 @@
 -- Numbers that digits write, past 2^64.
-use Rattle.std.proofs.Common.{◌≡◌, ◌<◌, ◌≤◌, ◌⊎◌, ℕ, zero, suc, ◌+◌, ◌-◌, ◌*◌, ◌/◌, Bool, true, false, List, [], ◌∷◌, length, drop, Option, Some, None, nat_lt, get_or, refl, sym, ap, ◌∙◌, arith, le-ltb, div-lt_iff_lt-mul, drop-cons, add-one}
+use Rattle.std.proofs.Common.{◌≡◌, ◌<◌, ◌≤◌, ℕ, ◌+◌, ◌-◌, ◌*◌, ◌/◌, List, [], ◌∷◌, length, drop, None, get_or, refl, arith, le-ltb, div-lt_iff_lt-mul, drop-cons, add-one}
 use Rattle.module_grammar.specs.Tokens.{below, number_in, digit_of}
 
 grows : (base n d : ℕ) → 1 ≤ base → n ≤ n * base + d

@@ -1,7 +1,5 @@
 -- The line of a rule as the code gives it, in three parts.
-use Rattle.std.specs.Prelude.{◌≡◌, List, [], ◌∷◌, ◌++◌, Option, Some, None}
-use Rattle.module_grammar.specs.declared.symbols.Class.{Class}
-use Rattle.module_grammar.specs.declared.symbols.Symbol.{Symbol}
+use Rattle.std.specs.Prelude.{◌≡◌, ◌++◌, Option, Some, None}
 use Rattle.module_grammar.specs.declared.lines.Choice.{Choice}
 use Rattle.module_grammar.specs.Engine.{Line}
 

@@ -1,5 +1,5 @@
 -- How a text can always go on to its end: a token of each class, the line that completes a rule, and what may follow a rule.
-use Rattle.std.specs.Prelude.{◌≡◌, ℕ, Bool, true, false, not, ◌&&◌, ◌||◌, eqb, List, [], ◌∷◌, ◌++◌, Option, Some, None, codes}
+use Rattle.std.specs.Prelude.{ℕ, Bool, true, false, ◌||◌, eqb, List, [], ◌∷◌, ◌++◌, Option, Some, None, codes}
 use Rattle.mlir_lex.specs.declared.kinds.TokenKind.{TokenKind}
 use Rattle.mlir_lex.specs.declared.kinds.TokenKind.TheVariants as kind
 use Rattle.op_table.specs.declared.kind.OpKind.TheVariants as op
@@ -11,13 +11,13 @@ use Rattle.module_grammar.specs.declared.symbols.Keyword.{Keyword}
 use Rattle.module_grammar.specs.declared.symbols.Keyword.TheVariants as key
 use Rattle.module_grammar.specs.declared.symbols.Rule.{Rule}
 use Rattle.module_grammar.specs.declared.symbols.Rule.TheVariants as rule
-use Rattle.module_grammar.specs.Engine.{Line, Table, line_at, Endings}
+use Rattle.module_grammar.specs.Engine.{Line, line_at, Endings}
 use Rattle.module_grammar.specs.declared.state.Tok.{Tok}
 use Rattle.module_grammar.specs.declared.state.Name.{Name}
 use Rattle.module_grammar.specs.declared.state.State.{State}
 use Rattle.module_grammar.specs.Tokens.{word_of}
 use Rattle.module_grammar.specs.State.{param_names, at_start}
-use Rattle.module_grammar.specs.Rules.{grammar, line, is_of}
+use Rattle.module_grammar.specs.Rules.{grammar, line}
 
 abbrev pub tok : TokenKind → List ℕ → Tok
 tok k text = record { kind = k; text = text; at = 0; joined = true }

@@ -1,36 +1,31 @@
 -- The first fault of the tokens of a text, within limits.
-use Rattle.std.specs.Prelude.{◌≡◌, ◌≤◌, ℕ, zero, suc, ◌+◌, ◌-◌, Bool, true, false, cond, not, ◌&&◌, ◌||◌, ◌↔◌, if◌then◌else◌, nat_le, nat_lt, List, [], ◌∷◌, ◌++◌, Option, Some, None, is_some, is_none, Result, Ok, Err, codes, bytes_eq}
-use Rattle.mlir_lex.specs.declared.kinds.TokenKind.{TokenKind}
-use Rattle.mlir_lex.specs.declared.kinds.TokenKind.TheVariants as kind
+use Rattle.std.specs.Prelude.{◌≡◌, ◌≤◌, ℕ, zero, suc, ◌+◌, ◌-◌, Bool, true, false, not, ◌&&◌, ◌||◌, ◌↔◌, if◌then◌else◌, nat_le, nat_lt, List, [], ◌∷◌, ◌++◌, Option, Some, None, is_some, Result, Ok, Err}
 use Rattle.op_table.specs.declared.kind.OpKind.{OpKind}
 use Rattle.op_table.specs.declared.rows.Level.{Level}
 use Rattle.op_table.specs.Rows.{all_kinds, stands_at}
 use Rattle.ir_forms.specs.declared.ops.Module.{Module}
 use Rattle.module_grammar.specs.declared.symbols.Class.{Class}
 use Rattle.module_grammar.specs.declared.symbols.Class.TheVariants as class
-use Rattle.module_grammar.specs.declared.symbols.Rule.{Rule}
 use Rattle.module_grammar.specs.declared.symbols.Rule.TheVariants as rule
-use Rattle.module_grammar.specs.declared.symbols.Act.{Act}
 use Rattle.module_grammar.specs.declared.symbols.Act.TheVariants as act
 use Rattle.module_grammar.specs.declared.symbols.Symbol.{Symbol}
 use Rattle.module_grammar.specs.declared.symbols.Symbol.TheVariants as symbol
 use Rattle.module_grammar.specs.declared.sought.Sought.{Sought}
 use Rattle.module_grammar.specs.declared.sought.Sought.TheVariants as sought
 use Rattle.module_grammar.specs.declared.faults.TextLimits.{TextLimits}
-use Rattle.module_grammar.specs.declared.faults.Limited.{Limited}
 use Rattle.module_grammar.specs.declared.faults.Limited.TheVariants as limited
 use Rattle.module_grammar.specs.declared.faults.GrammarFault.{GrammarFault}
 use Rattle.module_grammar.specs.declared.faults.GrammarFault.TheVariants as fault
-use Rattle.module_grammar.specs.Engine.{Line, Table, Place, Leads, Begins, step, close}
+use Rattle.module_grammar.specs.Engine.{Line, Place, Leads, Begins, step, close}
 use Rattle.module_grammar.specs.declared.state.Tok.{Tok}
 use Rattle.module_grammar.specs.declared.state.Name.{Name}
 use Rattle.module_grammar.specs.declared.state.State.{State}
 use Rattle.module_grammar.specs.declared.state.Entry.{Entry}
 use Rattle.module_grammar.specs.declared.state.Entry.TheVariants as entry
-use Rattle.module_grammar.specs.Tokens.{kind_among, number_of, is_number_kind, type_of}
+use Rattle.module_grammar.specs.Tokens.{kind_among, is_number_kind, type_of}
 use Rattle.module_grammar.specs.State.{at_start, module_of, count_of, with_names, up, does}
 use Rattle.module_grammar.specs.Rules.{grammar, is_of, is_name, is_value_name, is_byte, is_one, are_new, lines, may_end}
-use Rattle.module_grammar.specs.Texts.{whole, IsText}
+use Rattle.module_grammar.specs.Texts.{whole}
 
 -- ---- limits
 

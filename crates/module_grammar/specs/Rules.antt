@@ -1,5 +1,5 @@
 -- The grammar: what each form is made of, and which tokens are of which class.
-use Rattle.std.specs.Prelude.{◌≡◌, ℕ, ◌^◌, Bool, true, false, not, if◌then◌else◌, ◌&&◌, ◌||◌, ◌==◌, nat_le, nat_lt, List, [], ◌∷◌, ◌++◌, length, map, Option, Some, None, is_some, bytes_eq, codes}
+use Rattle.std.specs.Prelude.{ℕ, Bool, true, false, not, if◌then◌else◌, ◌&&◌, ◌||◌, ◌==◌, List, [], ◌∷◌, ◌++◌, length, Option, Some, None, is_some, bytes_eq, codes}
 use Rattle.mlir_lex.specs.declared.kinds.TokenKind.{TokenKind}
 use Rattle.mlir_lex.specs.declared.kinds.TokenKind.TheVariants as kind
 use Rattle.op_table.specs.declared.kind.OpKind.{OpKind}

@@ -1,6 +1,5 @@
 -- What is built while a text is read: the functions so far, what is open, and the names that are visible.
-use Rattle.std.specs.Prelude.{◌≡◌, ℕ, zero, suc, ◌+◌, ◌-◌, ◌^◌, Bool, true, false, cond, not, ◌&&◌, ◌||◌, if◌then◌else◌, ◌==◌, nat_le, nat_lt, min, max, List, [], ◌∷◌, ◌++◌, map, take, drop, length, slice_get, Option, Some, None, unwrap_or, codes, bytes_eq}
-use Rattle.mlir_lex.specs.declared.kinds.TokenKind.{TokenKind}
+use Rattle.std.specs.Prelude.{ℕ, zero, suc, ◌+◌, ◌-◌, Bool, true, false, ◌&&◌, ◌||◌, if◌then◌else◌, ◌==◌, nat_le, nat_lt, min, max, List, [], ◌∷◌, ◌++◌, map, take, drop, length, slice_get, Option, Some, None, unwrap_or, codes, bytes_eq}
 use Rattle.mlir_lex.specs.declared.kinds.TokenKind.TheVariants as kind
 use Rattle.op_table.specs.declared.kind.OpKind.{OpKind}
 use Rattle.op_table.specs.declared.kind.OpKind.TheVariants as op
@@ -18,8 +17,7 @@ use Rattle.ir_forms.specs.declared.ops.ValueNo.{ValueNo}
 use Rattle.ir_forms.specs.declared.ops.Attr.{Attr}
 use Rattle.ir_forms.specs.declared.ops.Attr.TheVariants as attr
 use Rattle.ir_forms.specs.declared.ops.Op.{Op, out-Op, roll-Op}
-use Rattle.ir_forms.specs.declared.ops.Region.{Region, out-Region, roll-Region}
-use Rattle.ir_forms.specs.declared.ops.Func.{Func}
+use Rattle.ir_forms.specs.declared.ops.Region.{Region, roll-Region}
 use Rattle.ir_forms.specs.declared.ops.Module.{Module}
 use Rattle.ir_forms.specs.Ops.{kind_of, operands_of}
 use Rattle.module_grammar.specs.declared.symbols.Act.{Act}

@@ -22,12 +22,16 @@ mod places;
 mod reader;
 mod refusal;
 mod region_acts;
+mod region_lines;
 mod sought;
 mod state;
 mod strings;
 mod symbols;
+#[cfg(test)]
+mod tests;
 mod token_acts;
 mod types;
+mod value_lines;
 mod words;
 
 pub use faults::{GrammarFault, Limited, TextLimits};
@@ -35,8 +39,8 @@ pub use laws::{
     accepts_exactly, finds_first_fault, has_one_module, names_first_fault, reads_each_text,
     reads_texts_alone,
 };
-pub use state::{Entry, Name, OpenBody, OpenFunc, OpenOp, Outer, Param, State, Tok};
 pub use reader::read;
 pub use sought::Sought;
+pub use state::{Entry, Name, OpenBody, OpenFunc, OpenOp, Outer, Param, State, Tok};
 pub use symbols::{Act, Class, Keyword, Rule, Symbol};
 pub use types::DimSoFar;

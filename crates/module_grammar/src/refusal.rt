@@ -57,9 +57,7 @@ fn names_open(left: &[Symbol]) -> bool
 fn counts_values(left: &[Symbol]) -> bool
     ensures { result ≡ counts_values left.now }
 {
-    !left.is_empty()
-        && matches!(left[0], Symbol::Word(Class::Number))
-        && names_open(&left[1..])
+    !left.is_empty() && matches!(left[0], Symbol::Word(Class::Number)) && names_open(&left[1..])
 }
 
 impl Entry {
@@ -68,9 +66,10 @@ impl Entry {
         ensures { result ≡ wide_fault self }
     {
         match self {
-            Entry::Whole { number: Some(number), at } if number >= 4_294_967_296 => {
-                Some(GrammarFault::Syntax { at })
-            }
+            Entry::Whole {
+                number: Some(number),
+                at,
+            } if number >= 4_294_967_296 => { Some(GrammarFault::Syntax { at }) }
             Entry::Whole { number: None, at } => Some(GrammarFault::WideNumber { at }),
             _ => None,
         }

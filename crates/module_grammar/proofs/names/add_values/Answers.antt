@@ -1,4 +1,4 @@
-use Rattle.std.proofs.Common.{◌≡◌, sym, ◌∙◌, arith}
+use Rattle.std.proofs.Common.{sym, ◌∙◌, arith}
 use Rattle.module_grammar.proofs.Values.{counted-one}
 use Rattle.module_grammar.proofs.names.add_values.Goals as goal
 

@@ -1,5 +1,5 @@
 use Rattle.std.proofs.Common.{◌≡◌, ◌++◌, ◌-◌, ◌≤◌}
-use Rattle.module_grammar.specs.State.{counted_from, count_of}
+use Rattle.module_grammar.specs.State.{counted_from}
 use Rattle.module_grammar.proofs.names.add_values.Given as goal
 
 abbrev pub invariant-loop : goal.invariant-loop

@@ -1,5 +1,5 @@
-use Rattle.std.proofs.Common.{◌≡◌, ◌≤◌, ◌+◌, ◌*◌, ℕ, get_or, drop, sym, ap, ◌∙◌, subst, arith}
-use Rattle.module_grammar.specs.Tokens.{below, number_in, digit_of}
+use Rattle.std.proofs.Common.{◌≤◌, ◌+◌, ◌*◌, ℕ, get_or, drop, sym, ap, ◌∙◌, subst, arith}
+use Rattle.module_grammar.specs.Tokens.{below, digit_of}
 use Rattle.module_grammar.proofs.Wide.{too-large, past, digit-step}
 use Rattle.module_grammar.proofs.numbers.number_in.Goals as goal
 

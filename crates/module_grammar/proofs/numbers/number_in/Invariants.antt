@@ -1,4 +1,4 @@
-use Rattle.std.proofs.Common.{◌≡◌, ◌<◌, ◌^◌, drop}
+use Rattle.std.proofs.Common.{◌≡◌, drop}
 use Rattle.module_grammar.specs.Tokens.{number_in}
 use Rattle.module_grammar.proofs.numbers.number_in.Given as goal
 

@@ -1,4 +1,4 @@
-use Rattle.std.proofs.Common.{◌≡◌, sym, ap}
+use Rattle.std.proofs.Common.{sym, ap}
 use Rattle.module_grammar.specs.Faults.{module_or}
 use Rattle.module_grammar.specs.Machines.{place_of}
 use Rattle.module_grammar.proofs.Passes.{walk_stops}

@@ -1,4 +1,4 @@
-use Rattle.std.proofs.Common.{◌≡◌, ◌∙◌}
+use Rattle.std.proofs.Common.{◌∙◌}
 use Rattle.module_grammar.proofs.Passes.{refused_there}
 use Rattle.module_grammar.proofs.reader.refusal_behind.Goals as goal
 

@@ -1,4 +1,3 @@
-use Rattle.std.proofs.Common.{◌≡◌, ◌∙◌}
 use Rattle.module_grammar.specs.Machines.{place_of}
 use Rattle.module_grammar.proofs.Passes.{is_faulty, is_taken}
 use Rattle.module_grammar.proofs.reader.take.Goals as goal

@@ -1,4 +1,4 @@
-use Rattle.std.proofs.Common.{◌≡◌, ℕ, length, reverse}
+use Rattle.std.proofs.Common.{◌≡◌, length, reverse}
 use Rattle.op_table.specs.declared.rows.Level.TheVariants.{Source}
 use Rattle.module_grammar.specs.Engine.{close}
 use Rattle.module_grammar.specs.Rules.{grammar}

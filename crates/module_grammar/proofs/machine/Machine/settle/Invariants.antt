@@ -1,4 +1,4 @@
-use Rattle.std.proofs.Common.{◌≡◌, ℕ, length, reverse}
+use Rattle.std.proofs.Common.{◌≡◌, length, reverse}
 use Rattle.module_grammar.specs.Faults.{settled}
 use Rattle.module_grammar.proofs.machine.Machine.settle.Given as goal
 

@@ -1,4 +1,4 @@
-use Rattle.std.proofs.Common.{◌≡◌, ℕ, length, reverse}
+use Rattle.std.proofs.Common.{◌≡◌, length, reverse}
 use Rattle.module_grammar.specs.Engine.{step}
 use Rattle.module_grammar.specs.Rules.{grammar}
 use Rattle.module_grammar.proofs.machine.Machine.step.Given as goal

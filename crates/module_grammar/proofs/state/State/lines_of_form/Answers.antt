@@ -1,4 +1,4 @@
-use Rattle.std.proofs.Common.{◌≡◌, List, [], ◌∷◌, Option, sym, subst}
+use Rattle.std.proofs.Common.{[], Option, sym, subst}
 use Rattle.module_grammar.specs.Choices.{IsChosen}
 use Rattle.module_grammar.specs.Engine.{Line}
 use Rattle.module_grammar.proofs.NamedForms.{form_lines}
