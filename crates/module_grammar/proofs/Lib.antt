@@ -1,0 +1,15 @@
+pub mod Runs
+pub mod Ends
+pub mod FirstFault
+pub mod Source
+pub mod Texts
+pub mod Grows
+pub mod Walks
+pub mod Values
+pub mod Lists
+pub mod Named
+pub mod Wide
+pub mod NamedForms
+pub mod Stacks
+pub mod FirstWords
+pub mod Passes

@@ -1,0 +1,9 @@
+pub mod Engine
+pub mod Tokens
+pub mod State
+pub mod Rules
+pub mod Endings
+pub mod Texts
+pub mod Faults
+pub mod Choices
+pub mod Machines

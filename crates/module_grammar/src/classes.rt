@@ -1,0 +1,262 @@
+//! Which tokens are of which class.
+ghost use Rattle.std.specs.Prelude.{◌≡◌, ◌&&◌, true, IfOk, bytes_eq};
+ghost use Rattle.module_grammar.specs.Tokens.{word_of, is_index, all_digits, is_up_to};
+ghost use Rattle.module_grammar.specs.Rules.{is_of, allows, none_named, holds_text, are_distinct, are_new, is_byte, is_bracket_byte, is_inner, is_one_type};
+ghost use Rattle.module_grammar.specs.State.{is_named, param_names, is_wide};
+
+use crate::names::is_named;
+use crate::state::{Entry, Name, Param, State, Tok};
+use crate::symbols::{Class, Keyword};
+use crate::words::is_name_of;
+use ir_forms::{Ty, Width};
+use mlir_lex::TokenKind;
+use std::alloc::{AllocError, Global};
+
+fn is_word(keyword: Keyword, text: &[u8]) -> bool
+    ensures { result ≡ bytes_eq text.now (word_of keyword) }
+{
+    match keyword {
+        Keyword::As => text == b"as".as_slice(),
+        Keyword::Attributes => text == b"attributes".as_slice(),
+        Keyword::Do => text == b"do".as_slice(),
+        Keyword::Else => text == b"else".as_slice(),
+        Keyword::False => text == b"false".as_slice(),
+        Keyword::Func => text == b"func.func".as_slice(),
+        Keyword::IterArgs => text == b"iter_args".as_slice(),
+        Keyword::Loc => text == b"loc".as_slice(),
+        Keyword::Module => text == b"module".as_slice(),
+        Keyword::Private => text == b"private".as_slice(),
+        Keyword::Public => text == b"public".as_slice(),
+        Keyword::Step => text == b"step".as_slice(),
+        Keyword::To => text == b"to".as_slice(),
+        Keyword::True => text == b"true".as_slice(),
+    }
+}
+
+pub(crate) fn is_byte(byte: u8, kind: TokenKind) -> bool
+    ensures { result ≡ is_byte byte kind }
+{
+    match kind {
+        TokenKind::Byte(other) => other == byte,
+        _ => false,
+    }
+}
+
+fn is_bracket(byte: u8) -> bool
+    ensures { result ≡ is_bracket_byte byte }
+{
+    byte == 40
+        || byte == 41
+        || byte == 123
+        || byte == 125
+        || byte == 91
+        || byte == 93
+        || byte == 60
+        || byte == 62
+}
+
+fn is_inner(kind: TokenKind) -> bool
+    ensures { result ≡ is_inner kind }
+{
+    match kind {
+        TokenKind::Byte(byte) => !is_bracket(byte),
+        TokenKind::End => false,
+        _ => true,
+    }
+}
+
+fn all_digits(text: &[u8]) -> bool
+    ensures { result ≡ all_digits text.now }
+{
+    for byte in text {
+        if *byte < 48 || *byte > 57 {
+            return false;
+        }
+    }
+    true
+}
+
+/// `#` and digits.
+fn is_index(text: &[u8]) -> bool
+    ensures { result ≡ is_index text.now }
+{
+    text.len() >= 2 && all_digits(&text[1..])
+}
+
+/// Whether the token is a type of this class, which is written by one token.
+#[tactic(auto, unfolding(crate::specs::Rules::is_of))]
+fn is_type_of(alloc: Global, class: Class, token: &Tok) -> Result<bool, AllocError>
+    requires { is_one_type class ≡ true }
+    ensures { IfOk result (λ yes. yes ≡ is_of class token.now) }
+{
+    if !matches!(
+        token.kind,
+        TokenKind::Name | TokenKind::BangName | TokenKind::Memref
+    ) {
+        return Ok(false);
+    }
+    let ty = token.ty(alloc)?;
+    match class {
+        Class::PlainType => Ok(ty.is_some()),
+        Class::Payload => Ok(matches!(ty, Some(Ty::Int(_) | Ty::Index | Ty::Memref(_)))),
+        Class::MemrefType => Ok(matches!(ty, Some(Ty::Memref(_)))),
+        Class::GroupType => Ok(matches!(ty, Some(Ty::Group))),
+        Class::TruthType => Ok(matches!(ty, Some(Ty::Int(Width::W1)))),
+        _ => unreachable!(),
+    }
+}
+
+/// Whether none of the names is that of one of the tokens.
+fn none_named(names: &[Name], tokens: &[Tok]) -> bool
+    ensures { result ≡ none_named names.now tokens.now }
+{
+    for token in tokens {
+        if is_named(names, token.text.as_slice()) {
+            return false;
+        }
+    }
+    true
+}
+
+fn holds_text(tokens: &[Tok], text: &[u8]) -> bool
+    ensures { result ≡ holds_text tokens.now text.now }
+{
+    for token in tokens {
+        if token.text.as_slice() == text {
+            return true;
+        }
+    }
+    false
+}
+
+/// Whether no text stands twice among the tokens.
+fn are_distinct(tokens: &[Tok]) -> bool
+    ensures { result ≡ are_distinct tokens.now }
+{
+    for at in 0..tokens.len() {
+        if holds_text(&tokens[at + 1..], tokens[at].text.as_slice()) {
+            return false;
+        }
+    }
+    true
+}
+
+/// Whether one of the parameters has this name.
+fn is_param(params: &[Param], text: &[u8]) -> bool
+    ensures { result ≡ is_named (param_names params.now) text.now }
+{
+    for param in params {
+        if param.name.text.as_slice() == text {
+            return true;
+        }
+    }
+    false
+}
+
+impl Entry {
+    /// Whether the entry is whole, and its number isn't below 2^32.
+    fn is_wide(self) -> bool
+        ensures { result ≡ is_wide self }
+    {
+        match self {
+            Entry::Whole {
+                number: Some(number),
+                at: _,
+            } => number >= 4_294_967_296,
+            Entry::Whole {
+                number: None,
+                at: _,
+            } => true,
+            _ => false,
+        }
+    }
+}
+
+/// Whether the token is of the class, whatever the state.
+#[tactic(auto, unfolding(crate::specs::Rules::is_of))]
+pub fn is_of(alloc: Global, class: Class, token: &Tok) -> Result<bool, AllocError>
+    ensures { IfOk result (λ yes. yes ≡ is_of class token.now) }
+{
+    let kind = token.kind;
+    let text = token.text.as_slice();
+    match class {
+        Class::Byte(byte) => Ok(is_byte(byte, kind)),
+        Class::Arrow => Ok(matches!(kind, TokenKind::Arrow)),
+        Class::Key(keyword) => Ok(matches!(kind, TokenKind::Name) && is_word(keyword, text)),
+        Class::OpName(op) => Ok(matches!(kind, TokenKind::Name) && is_name_of(op, text)),
+        Class::SymbolName => Ok(matches!(kind, TokenKind::SymbolName | TokenKind::SymbolText)),
+        Class::Message => Ok(matches!(kind, TokenKind::Text)),
+        Class::Use | Class::Param | Class::Result => Ok(matches!(kind, TokenKind::ValueName)),
+        Class::Index => Ok(matches!(kind, TokenKind::HashName) && token.joined && is_index(text)),
+        Class::Number | Class::HeldNumber => Ok(
+            matches!(kind, TokenKind::Digits | TokenKind::Hex) && token.number().is_some(),
+        ),
+        Class::Negated => Ok(
+            matches!(kind, TokenKind::Digits | TokenKind::Hex) && is_negatable(token.number()),
+        ),
+        Class::Predicate => Ok(matches!(kind, TokenKind::Name) && token.predicate().is_some()),
+        Class::PlainType
+        | Class::Payload
+        | Class::MemrefType
+        | Class::GroupType
+        | Class::TruthType => is_type_of(alloc, class, token),
+        Class::ValueType => Ok(
+            matches!(kind, TokenKind::BangName) && text == b"!async.value".as_slice(),
+        ),
+        Class::BlockName => Ok(matches!(kind, TokenKind::BlockName)),
+        Class::HeldEquals => Ok(is_byte(61, kind)),
+        Class::EntryComma => Ok(is_byte(44, kind)),
+        Class::EntryClose => Ok(is_byte(125, kind)),
+        Class::EntryWord => Ok(is_inner(kind) && !is_byte(44, kind)),
+        Class::AnyWord => Ok(is_inner(kind)),
+        Class::End => Ok(matches!(kind, TokenKind::End)),
+    }
+}
+
+/// Whether the number is at most 2^63.
+fn is_negatable(number: Option<u64>) -> bool
+    ensures { result ≡ is_up_to 9223372036854775808 number }
+{
+    match number {
+        Some(number) => number <= 9_223_372_036_854_775_808,
+        None => false,
+    }
+}
+
+impl State {
+    /// Whether the names held are new: none is visible or a result of the open operation, and none stands twice.
+    pub fn holds_new(&self) -> bool
+        ensures { result ≡ are_new self.now self.now.held }
+    {
+        let held = self.held.as_slice();
+        none_named(self.visible.as_slice(), held)
+            && none_named(self.op.results.as_slice(), held)
+            && are_distinct(held)
+    }
+
+    /// What the state asks of a token of the class besides.
+    #[tactic(auto, unfolding(crate::specs::Rules::allows), using(crate::proofs::Named::named_either))]
+    pub fn allows(&self, class: Class, token: &Tok) -> bool
+        ensures { result ≡ allows class self.now token.now }
+    {
+        let text = token.text.as_slice();
+        match class {
+            Class::Param => !(is_named(self.visible.as_slice(), text)
+                || is_param(self.op.params.as_slice(), text)),
+            Class::Result => !(is_named(self.visible.as_slice(), text)
+                || is_named(self.op.results.as_slice(), text)),
+            Class::HeldEquals => self.holds_new(),
+            Class::HeldNumber => self.held.len() == 1 && self.holds_new(),
+            Class::EntryComma | Class::EntryClose => !self.entry.is_wide(),
+            _ => true,
+        }
+    }
+
+    /// Whether the token is of the class here.
+    pub fn accepts(&self, alloc: Global, class: Class, token: &Tok) -> Result<bool, AllocError>
+        ensures { IfOk result (λ yes. yes ≡ (is_of class token.now && allows class self.now token.now)) }
+    {
+        let of_class = is_of(alloc, class, token)?;
+        Ok(of_class && self.allows(class, token))
+    }
+}

@@ -1,0 +1,33 @@
+//! The laws of the grammar, as the contracts of functions that do nothing.
+ghost use Rattle.module_grammar.specs.Faults.{AcceptsExactly, NamesFirstFault};
+ghost use Rattle.module_grammar.specs.Texts.{ReadsEachText, ReadsTextsAlone, HasOneModule, FindsFirstFault};
+
+/// Every text of the grammar is read, as the module that it stands for.
+pub fn reads_each_text()
+    ensures { ReadsEachText }
+{}
+
+/// What is read is a text of the grammar, and stands for that module.
+pub fn reads_texts_alone()
+    ensures { ReadsTextsAlone }
+{}
+
+/// A text stands for one module.
+pub fn has_one_module()
+    ensures { HasOneModule }
+{}
+
+/// What is refused is no text of the grammar, and is refused at the first token that doesn't fit.
+pub fn finds_first_fault()
+    ensures { FindsFirstFault }
+{}
+
+/// The module is that of a text within the limits, exactly where it is the answer.
+pub fn accepts_exactly()
+    ensures { AcceptsExactly }
+{}
+
+/// Each fault that is answered is the first of the text.
+pub fn names_first_fault()
+    ensures { NamesFirstFault }
+{}

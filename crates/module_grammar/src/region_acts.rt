@@ -1,0 +1,189 @@
+//! What opens and closes functions and regions.
+ghost use Rattle.std.specs.Prelude.{◌≡◌, ◌∷◌, ◌++◌, [], map, IfOk, OnOk};
+ghost use Rattle.module_grammar.specs.State.{does, region_of, made, body_ops, left_out, with_made, begun_with, param_names, param_value, last_as_reduce, as_reduce, is_yield, is_ending, ends_in, terminator_of, close_into};
+ghost use Rattle.module_grammar.specs.declared.symbols.Act.TheVariants as act;
+
+use crate::copies::copy_type;
+use crate::counting::{as_number, up};
+use crate::state::{Name, OpenBody, OpenFunc, OpenOp, Outer, Param, State};
+use ir_forms::{Attr, Func, Op, OpKind, Region, Ty, ValueNo};
+use lists::Items;
+use std::alloc::{AllocError, Global};
+use std::mem;
+
+/// Adds copies of the parameters' names to the names.
+fn add_names(alloc: Global, names: &mut Items<Name>, params: &[Param]) -> Result<(), AllocError>
+    ensures { OnOk result (names.new ≡ names.old ++ param_names params.now) }
+{
+    for param in params {
+        names.push(param.name.copy(alloc)?)?;
+    }
+    Ok(())
+}
+
+/// The values and types of parameters.
+fn param_values(alloc: Global, params: &[Param]) -> Result<Items<(ValueNo, Ty)>, AllocError>
+    ensures { IfOk result (λ values. values ≡ map param_value params.now) }
+{
+    let mut values = Items::new(alloc);
+    for param in params {
+        values.push((ValueNo(param.name.first), copy_type(alloc, &param.ty)?))?;
+    }
+    Ok(values)
+}
+
+/// The operation without operands that a reader makes.
+fn made(alloc: Global, kind: OpKind, at: u32) -> Op
+    ensures { result ≡ made kind at }
+{
+    Op {
+        kind,
+        at,
+        operands: Items::new(alloc),
+        groups: Items::new(alloc),
+        written: Items::new(alloc),
+        results: Items::new(alloc),
+        types: Items::new(alloc),
+        attr: Attr::None,
+        regions: Items::new(alloc),
+    }
+}
+
+fn is_yield(kind: OpKind) -> bool
+    ensures { result ≡ is_yield kind }
+{
+    matches!(kind, OpKind::ScfYield)
+}
+
+/// Whether an operation of the kind is a terminator of the other kind.
+fn is_ending(terminator: OpKind, kind: OpKind) -> bool
+    ensures { result ≡ is_ending terminator kind }
+{
+    match terminator {
+        OpKind::ScfYield => matches!(kind, OpKind::ScfYield),
+        OpKind::AsyncYield => matches!(kind, OpKind::AsyncYield),
+        OpKind::ScfReduce => matches!(kind, OpKind::ScfReduce),
+        _ => false,
+    }
+}
+
+/// Whether the last operation is a terminator of this kind.
+fn ends_in(terminator: OpKind, ops: &Items<Op>) -> bool
+    ensures { result ≡ ends_in terminator ops.now }
+{
+    match ops.get(ops.len().saturating_sub(1)) {
+        Some(op) => is_ending(terminator, op.kind),
+        None => false,
+    }
+}
+
+/// The kind of terminator that a region may leave out, where its operation has so many types of results.
+fn terminator_of(kind: OpKind, types: usize) -> Option<OpKind>
+    ensures { result ≡ terminator_of kind types }
+{
+    match kind {
+        OpKind::ScfFor | OpKind::ScfIf if types == 0 => Some(OpKind::ScfYield),
+        OpKind::AsyncExecute if types == 1 => Some(OpKind::AsyncYield),
+        OpKind::ScfParallel => Some(OpKind::ScfReduce),
+        _ => None,
+    }
+}
+
+/// The kind of the terminator that is made at the end of a region, if one is.
+fn left_out(kind: OpKind, types: &Items<Ty>, ops: &Items<Op>) -> Option<OpKind>
+    ensures { result ≡ left_out kind types.now ops.now }
+{
+    match terminator_of(kind, types.len()) {
+        Some(terminator) if !ends_in(terminator, ops) => Some(terminator),
+        _ => None,
+    }
+}
+
+/// In a parallel body a last yield without operands is a reduce, with the yield's number.
+#[tactic(auto, using(crate::proofs::Lists::last_reduced))]
+fn body_ops(alloc: Global, kind: OpKind, ops: Items<Op>) -> Result<Items<Op>, AllocError>
+    ensures { IfOk result (λ all. all ≡ body_ops kind ops) }
+{
+    let mut ops = ops;
+    if matches!(kind, OpKind::ScfParallel) {
+        if let Some(last) = ops.pop() {
+            let last = if is_yield(last.kind) && last.operands.len() == 0 {
+                made(alloc, OpKind::ScfReduce, last.at)
+            } else {
+                last
+            };
+            ops.push(last)?;
+        }
+    }
+    Ok(ops)
+}
+
+#[tactic(auto, unfolding(crate::specs::State::does))]
+impl State {
+    pub(crate) fn open_body(&mut self, alloc: Global) -> Result<(), AllocError>
+        ensures { OnOk result (self.new ≡ does act.OpenBody self.old) }
+    {
+        let open = mem::replace(&mut self.op, OpenOp::blank(alloc, 0));
+        self.visible = Items::new(alloc);
+        add_names(alloc, &mut self.visible, open.params.as_slice())?;
+        self.func.params = open.params;
+        self.body = OpenBody::blank(alloc);
+        self.deepest = self.deepest.max(1);
+        Ok(())
+    }
+
+    pub(crate) fn open_region(&mut self, alloc: Global) -> Result<(), AllocError>
+        ensures { OnOk result (self.new ≡ does act.OpenRegion self.old) }
+    {
+        self.deepest = self.deepest.max(up(self.outer.len() as u64, 2));
+        let params = mem::replace(&mut self.op.params, Items::new(alloc));
+        let outside = self.visible.len();
+        add_names(alloc, &mut self.visible, params.as_slice())?;
+        let op = mem::replace(&mut self.op, OpenOp::blank(alloc, 0));
+        let inner = OpenBody {
+            params,
+            ops: Items::new(alloc),
+            outside,
+        };
+        let body = mem::replace(&mut self.body, inner);
+        self.outer.push(Outer { op, body })
+    }
+
+    /// The region is over: it joins the operation in which it stands.
+    #[tactic(auto, unfolding(crate::specs::State::does), using(crate::proofs::Lists::last_pushed, crate::proofs::Lists::without_pushed))]
+    pub(crate) fn close_region(&mut self, alloc: Global) -> Result<(), AllocError>
+        ensures { OnOk result (self.new ≡ does act.CloseRegion self.old) }
+    {
+        let Some(outer) = self.outer.pop() else {
+            return Ok(());
+        };
+        let body = mem::replace(&mut self.body, outer.body);
+        let mut ops = body_ops(alloc, outer.op.kind, body.ops)?;
+        if let Some(kind) = left_out(outer.op.kind, &outer.op.types, &ops) {
+            self.begun = up(self.begun, 1);
+            ops.push(made(alloc, kind, as_number(self.begun)))?;
+        }
+        let params = param_values(alloc, body.params.as_slice())?;
+        self.visible.truncate(body.outside);
+        self.op = outer.op;
+        self.op.regions.push(Region { params, ops })
+    }
+
+    pub(crate) fn end_func(&mut self, alloc: Global) -> Result<(), AllocError>
+        ensures { OnOk result (self.new ≡ does act.EndFunc self.old) }
+    {
+        let func = mem::replace(&mut self.func, OpenFunc::blank(alloc, 0));
+        let body = mem::replace(&mut self.body, OpenBody::blank(alloc));
+        let params = param_values(alloc, func.params.as_slice())?;
+        self.funcs.push(Func {
+            name: func.name,
+            params,
+            results: func.results,
+            body: Region {
+                params: Items::new(alloc),
+                ops: body.ops,
+            },
+            at: func.at,
+        })
+    }
+}

@@ -1,0 +1,292 @@
+//! What the acts make of the last token.
+ghost use Rattle.std.specs.Prelude.{◌≡◌, ◌∷◌, [], drop, unwrap_or, IfOk, OnOk};
+ghost use Rattle.module_grammar.specs.State.{does, add_operands, add_results, last_typed, typed_by, first_type, payload_types, element_type, cell_type, held_type, number_payload, value_type, entry_after, index_of, with_attr, literal};
+ghost use Rattle.module_grammar.specs.declared.symbols.Act.TheVariants as act;
+
+use crate::copies::copy_type;
+use crate::counting::number_up;
+use crate::names::resolve_at;
+use crate::state::{Entry, Name, Param, State, Tok};
+use crate::words::kind_named;
+use ir_forms::{Attr, CellTy, NumTy, Pred, Ty, ValTy, Width};
+use lists::Items;
+use mlir_lex::TokenKind;
+use std::alloc::{AllocError, Global};
+use std::mem;
+
+/// The first type, or none.
+fn first_type(alloc: Global, types: &Items<Ty>) -> Result<Ty, AllocError>
+    ensures { IfOk result (λ ty. ty ≡ first_type types.now) }
+{
+    match types.get(0) {
+        Some(ty) => copy_type(alloc, ty),
+        None => Ok(Ty::Untyped),
+    }
+}
+
+fn number_payload(number: NumTy) -> ValTy
+    ensures { result ≡ number_payload number }
+{
+    match number {
+        NumTy::Int(width) => ValTy::Int(width),
+        NumTy::Index => ValTy::Index,
+    }
+}
+
+fn cell_type(cell: CellTy) -> Ty
+    ensures { result ≡ cell_type cell }
+{
+    match cell {
+        CellTy::Int(width) => Ty::Int(width),
+        CellTy::Index => Ty::Index,
+        CellTy::Token => Ty::Token,
+        CellTy::Group => Ty::Group,
+        CellTy::Value(number) => Ty::Value(number_payload(number)),
+    }
+}
+
+/// The type of the cells of a memref.
+fn element_type(ty: &Ty) -> Ty
+    ensures { result ≡ element_type ty.now }
+{
+    match ty {
+        Ty::Memref(memref) => cell_type(memref.elem),
+        _ => Ty::Untyped,
+    }
+}
+
+fn held_type(payload: ValTy) -> Ty
+    ensures { result ≡ held_type payload }
+{
+    match payload {
+        ValTy::Int(width) => Ty::Int(width),
+        ValTy::Index => Ty::Index,
+        ValTy::Memref(memref) => Ty::Memref(memref),
+    }
+}
+
+/// What awaiting this type gives, if it gives anything.
+fn payload_types(alloc: Global, ty: Ty) -> Result<Items<Ty>, AllocError>
+    ensures { IfOk result (λ types. types ≡ payload_types ty) }
+{
+    let mut types = Items::new(alloc);
+    if let Ty::Value(payload) = ty {
+        types.push(held_type(payload))?;
+    }
+    Ok(types)
+}
+
+impl Entry {
+    /// The entry with one more token, which is no bracket and no comma.
+    fn after(self, token: &Tok) -> Entry
+        ensures { result ≡ entry_after self token.now }
+    {
+        let text = token.text.as_slice();
+        match self {
+            Entry::Fresh if text == b"aio.at".as_slice() => Entry::Keyed,
+            Entry::Keyed if text == b"=".as_slice() => Entry::Equated,
+            Entry::Equated if matches!(token.kind, TokenKind::Digits | TokenKind::Hex) =>
+                Entry::Numbered {
+                    number: token.number(),
+                    at: token.at,
+                },
+            Entry::Numbered { number, at } if text == b":".as_slice() => Entry::Typed {
+                number,
+                at,
+            },
+            Entry::Typed { number, at } if text == b"i64".as_slice() => Entry::Whole { number, at },
+            _ => Entry::Other,
+        }
+    }
+}
+
+#[tactic(auto, unfolding(crate::specs::State::does))]
+impl State {
+    pub(crate) fn kind(&mut self)
+        ensures { self.new ≡ does act.Kind self.old }
+    {
+        self.op.kind = kind_named(self.last.text.as_slice());
+    }
+
+    pub(crate) fn entry(&mut self)
+        ensures { self.new ≡ does act.Entry self.old }
+    {
+        self.entry = self.entry.after(&self.last);
+    }
+
+    #[tactic(auto, unfolding(crate::specs::State::does), using(crate::proofs::Lists::last_named))]
+    pub(crate) fn result_count(&mut self) -> Result<(), AllocError>
+        ensures { OnOk result (self.new ≡ does act.ResultCount self.old) }
+    {
+        let number = self.last.number().unwrap_or(0);
+        if let Some(name) = self.op.results.pop() {
+            self.op.results.push(Name {
+                text: name.text,
+                at: name.at,
+                first: name.first,
+                count: Some(number),
+            })?;
+        }
+        self.next = number_up(self.next.saturating_sub(1), number);
+        Ok(())
+    }
+
+    pub(crate) fn held_operands(&mut self, alloc: Global) -> Result<(), AllocError>
+        ensures { OnOk result (self.new ≡ does act.HeldOperands self.old) }
+    {
+        let held = mem::replace(&mut self.held, Items::new(alloc));
+        for token in held.as_slice() {
+            self.add_operand(alloc, token)?;
+        }
+        Ok(())
+    }
+
+    pub(crate) fn held_results(&mut self, alloc: Global) -> Result<(), AllocError>
+        ensures { OnOk result (self.new ≡ does act.HeldResults self.old) }
+    {
+        let held = mem::replace(&mut self.held, Items::new(alloc));
+        self.end_op(alloc)?;
+        self.begin_op(alloc);
+        for token in held.as_slice() {
+            self.add_result(alloc, token)?;
+        }
+        Ok(())
+    }
+
+    #[tactic(auto, unfolding(crate::specs::State::does), using(crate::proofs::Lists::last_given))]
+    pub(crate) fn param_type(&mut self, alloc: Global) -> Result<(), AllocError>
+        ensures { OnOk result (self.new ≡ does act.ParamType self.old) }
+    {
+        let ty = first_type(alloc, &self.read)?;
+        self.read = Items::new(alloc);
+        match self.op.params.pop() {
+            Some(param) => self.op.params.push(Param {
+                name: param.name,
+                ty,
+            }),
+            None => Ok(()),
+        }
+    }
+
+    #[tactic(auto, unfolding(crate::specs::State::does), using(crate::proofs::Lists::last_given))]
+    pub(crate) fn block_param_type(&mut self, alloc: Global) -> Result<(), AllocError>
+        ensures { OnOk result (self.new ≡ does act.BlockParamType self.old) }
+    {
+        let ty = first_type(alloc, &self.read)?;
+        self.read = Items::new(alloc);
+        match self.body.params.pop() {
+            Some(param) => self.body.params.push(Param {
+                name: param.name,
+                ty,
+            }),
+            None => Ok(()),
+        }
+    }
+
+    #[tactic(auto, unfolding(crate::specs::State::does), using(crate::proofs::Lists::last_given))]
+    pub(crate) fn payload_param(&mut self, alloc: Global) -> Result<(), AllocError>
+        ensures { OnOk result (self.new ≡ does act.PayloadParam self.old) }
+    {
+        let written = first_type(alloc, &self.read)?;
+        let types = payload_types(alloc, written)?;
+        let ty = first_type(alloc, &types)?;
+        match self.op.params.pop() {
+            Some(param) => self.op.params.push(Param {
+                name: param.name,
+                ty,
+            }),
+            None => Ok(()),
+        }
+    }
+
+    pub(crate) fn plain_type(&mut self, alloc: Global) -> Result<(), AllocError>
+        ensures { OnOk result (self.new ≡ does act.PlainType self.old) }
+    {
+        let ty = match self.last.ty(alloc)? {
+            Some(ty) => ty,
+            None => Ty::Untyped,
+        };
+        self.read.push(ty)
+    }
+
+    pub(crate) fn value_type(&mut self, alloc: Global) -> Result<(), AllocError>
+        ensures { OnOk result (self.new ≡ does act.ValueType self.old) }
+    {
+        let ty = match self.last.payload(alloc)? {
+            Some(payload) => Ty::Value(payload),
+            None => Ty::Untyped,
+        };
+        self.read.push(ty)
+    }
+
+    pub(crate) fn element_result(&mut self, alloc: Global) -> Result<(), AllocError>
+        ensures { OnOk result (self.new ≡ does act.ElementResult self.old) }
+    {
+        let ty = first_type(alloc, &self.read)?;
+        self.op.types.push(element_type(&ty))
+    }
+
+    pub(crate) fn payload_result(&mut self, alloc: Global) -> Result<(), AllocError>
+        ensures { OnOk result (self.new ≡ does act.PayloadResult self.old) }
+    {
+        let ty = first_type(alloc, &self.read)?;
+        let types = payload_types(alloc, ty)?;
+        self.op.types.append(types)
+    }
+
+    pub(crate) fn literal(&mut self, negative: bool)
+        ensures { self.new ≡ with_attr (literal negative self.old.last) self.old }
+    {
+        let magnitude = self.last.number().unwrap_or(0);
+        self.op.attr = Attr::Literal {
+            negative,
+            magnitude,
+        };
+    }
+
+    pub(crate) fn truth(&mut self)
+        ensures { self.new ≡ does act.Truth self.old }
+    {
+        self.op.attr = Attr::Truth(self.last.text.as_slice() == b"true".as_slice());
+    }
+
+    pub(crate) fn predicate(&mut self)
+        ensures { self.new ≡ does act.Predicate self.old }
+    {
+        self.op.attr = Attr::Pred(self.last.predicate().unwrap_or(Pred::Eq));
+    }
+
+    #[tactic(auto, unfolding(crate::specs::State::does), using(crate::proofs::Lists::without_pushed))]
+    pub(crate) fn operand_index(&mut self) -> Result<(), AllocError>
+        ensures { OnOk result (self.new ≡ does act.OperandIndex self.old) }
+    {
+        let value = resolve_at(
+            self.visible.as_slice(),
+            self.used.as_slice(),
+            self.last.index(),
+        );
+        self.op.operands.pop();
+        self.op.operands.push(value)
+    }
+
+    pub(crate) fn func_name(&mut self, alloc: Global) -> Result<(), AllocError>
+        ensures { OnOk result (self.new ≡ does act.FuncName self.old) }
+    {
+        self.func.name = self.last.symbol(alloc)?;
+        Ok(())
+    }
+
+    pub(crate) fn callee(&mut self, alloc: Global) -> Result<(), AllocError>
+        ensures { OnOk result (self.new ≡ does act.Callee self.old) }
+    {
+        self.op.attr = Attr::Callee(self.last.symbol(alloc)?);
+        Ok(())
+    }
+
+    pub(crate) fn message(&mut self, alloc: Global) -> Result<(), AllocError>
+        ensures { OnOk result (self.new ≡ does act.Message self.old) }
+    {
+        self.op.attr = Attr::Text(self.last.string(alloc)?);
+        Ok(())
+    }
+}
