@@ -13,3 +13,4 @@ pub mod NamedForms
 pub mod Stacks
 pub mod FirstWords
 pub mod Passes
+pub mod Unknown

@@ -35,10 +35,10 @@ one-module level ts m n t u =
     let e : Ok m ≡ Ok n = sym (each-text level ts m t) ∙ each-text level ts n u in
     let h : m ≡ n = cc in h
 
-text-begins : (level : Level) (front : List Tok) → Begins (grammar level) whole at_start front → BeginsText level front
+pub text-begins : (level : Level) (front : List Tok) → Begins (grammar level) whole at_start front → BeginsText level front
 text-begins level front b = (b.0, module_of b.1, (b.1, b.2, refl))
 
-begins-text : (level : Level) (front : List Tok) → BeginsText level front → Begins (grammar level) whole at_start front
+pub begins-text : (level : Level) (front : List Tok) → BeginsText level front → Begins (grammar level) whole at_start front
 begins-text level front b = (b.0, b.2.0, b.2.1)
 
 doesnt-fit : (level : Level) (front rest : List Tok) → IsRefused (grammar level) whole at_start front rest → DoesntFit level front rest

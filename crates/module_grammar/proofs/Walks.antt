@@ -162,7 +162,7 @@ accepts-exactly limits level ts m = (
 
 -- ---- the first fault
 
-settle-good : (level : Level) (k : List Symbol) (s : State)
+pub settle-good : (level : Level) (k : List Symbol) (s : State)
     → good_then (grammar level) (endings level) k class.End ≡ true
     → good_then (grammar level) (endings level) (settled k s).left class.End ≡ true
 settle-good level [] s h = h
@@ -171,7 +171,7 @@ settle-good level (symbol.Do a ∷ k) s h = settle-good level k (does a s) h
 settle-good level (symbol.Rule r ∷ k) s h = h
 
 -- what begins behind a token that fits, and the other way round
-begins-on : (level : Level) (k : List Symbol) (s : State) (t : Tok) (front : List Tok) (p : Place State) → step (grammar level) k s t ≡ Some p
+pub begins-on : (level : Level) (k : List Symbol) (s : State) (t : Tok) (front : List Tok) (p : Place State) → step (grammar level) k s t ≡ Some p
     → Begins (grammar level) (settled p.left p.state).left (next_state level p) front → Begins (grammar level) k s (t ∷ front)
 begins-on level k s t front p e b =
     begins-before (grammar level) k s t front p e (b.0, b.1, settle-leads level p.left p.state (front ++ b.0) b.1 b.2)

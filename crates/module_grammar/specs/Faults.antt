@@ -25,7 +25,7 @@ use Rattle.module_grammar.specs.declared.state.Entry.TheVariants as entry
 use Rattle.module_grammar.specs.Tokens.{kind_among, is_number_kind, type_of}
 use Rattle.module_grammar.specs.State.{at_start, module_of, count_of, with_names, up, does}
 use Rattle.module_grammar.specs.Rules.{grammar, is_of, is_name, is_value_name, is_byte, is_one, are_new, lines, may_end}
-use Rattle.module_grammar.specs.Texts.{whole}
+use Rattle.module_grammar.specs.Texts.{whole, BeginsText}
 
 -- ---- limits
 
@@ -336,3 +336,36 @@ NamesFirstFault = (limits : TextLimits) (level : Level) (ts : List Tok) (f : Gra
 abbrev pub AcceptsExactly : Type 0
 AcceptsExactly = (limits : TextLimits) (level : Level) (ts : List Tok) (m : Module)
     → (parsed limits level ts ≡ Ok m) ↔ IsTextWithin limits level ts m
+
+-- the token is a name that no operation of the level has
+abbrev pub names_no_op : Level → Tok → Bool
+names_no_op level t = is_name t.kind && not (has_row level t.text)
+
+-- the token is the name of an operation of the level
+abbrev pub names_op : Level → Tok → Bool
+names_op level t = is_name t.kind && has_row level t.text
+
+-- Why something is unknown: at this place stands a wrong token, with which no text of the level goes on behind what stands
+-- before it, and a right one, put in its place, goes on there.
+pub record IsUnknown (level : Level) (ts : List Tok) (at : ℕ) (wrong right : Tok → Bool) : Type 0 where
+  pub front : List Tok
+  pub token : Tok
+  pub rest : List Tok
+  pub parts : ts ≡ front ++ token ∷ rest
+  pub here : token.at ≡ at
+  pub is_wrong : wrong token ≡ true
+  pub fits : BeginsText level front
+  pub refused : BeginsText level (front ++ token ∷ []) → ⊥
+  pub other : Tok
+  pub is_right : right other ≡ true
+  pub goes_on : BeginsText level (front ++ other ∷ [])
+
+-- UnknownOp is answered at a name that no operation of the level has, and only where the name of one would fit
+abbrev pub TellsUnknownOp : Type 0
+TellsUnknownOp = (limits : TextLimits) (level : Level) (ts : List Tok) (at : ℕ)
+    → parsed limits level ts ≡ Err (fault.UnknownOp at) → IsUnknown level ts at (names_no_op level) (names_op level)
+
+-- UnknownType is answered at a token that begins no type, and only where one that begins a type would fit
+abbrev pub TellsUnknownType : Type 0
+TellsUnknownType = (limits : TextLimits) (level : Level) (ts : List Tok) (at : ℕ)
+    → parsed limits level ts ≡ Err (fault.UnknownType at) → IsUnknown level ts at (λ t. not (begins_type t)) begins_type

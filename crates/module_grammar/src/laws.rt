@@ -1,5 +1,5 @@
 //! The laws of the grammar, as the contracts of functions that do nothing.
-ghost use Rattle.module_grammar.specs.Faults.{AcceptsExactly, NamesFirstFault};
+ghost use Rattle.module_grammar.specs.Faults.{AcceptsExactly, NamesFirstFault, TellsUnknownOp, TellsUnknownType};
 ghost use Rattle.module_grammar.specs.Texts.{ReadsEachText, ReadsTextsAlone, HasOneModule, FindsFirstFault};
 
 /// Every text of the grammar is read, as the module that it stands for.
@@ -30,4 +30,14 @@ pub fn accepts_exactly()
 /// Each fault that is answered is the first of the text.
 pub fn names_first_fault()
     ensures { NamesFirstFault }
+{}
+
+/// Where an operation is answered as unknown, the name of one of the level would fit.
+pub fn tells_unknown_op()
+    ensures { TellsUnknownOp }
+{}
+
+/// Where a type is answered as unknown, a token that begins one would fit.
+pub fn tells_unknown_type()
+    ensures { TellsUnknownType }
 {}

@@ -1,0 +1,5 @@
+use Rattle.module_grammar.proofs.Unknown.{tells-unknown-op}
+use Rattle.module_grammar.proofs.laws.tells_unknown_op.Goals as goal
+
+pub returns : goal.returns
+returns c = tells-unknown-op
