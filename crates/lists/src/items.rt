@@ -2,6 +2,9 @@ ghost use Rattle.std.specs.Prelude.{◌≡◌, ◌<◌, ◌++◌, ◌∷◌, [],
 ghost use Rattle.std.specs.Option.{option_copied};
 ghost use Rattle.std.specs.Cmp.Lexicographic.{pointwise, lists_per};
 ghost use Rattle.std.specs.List.{AllZip};
+ghost use Rattle.std.specs.Borrow.{Lends, Array, sem};
+ghost use Rattle.lists.specs.contracts.items.Items.{the_row};
+ghost use Rattle.lists.specs.Refill.{refilled};
 
 use std::alloc::{AllocError, AllocFailed, Global};
 use std::marker::Model;
@@ -51,6 +54,14 @@ impl<T> Items<T> {
         ensures { result.now ≡ self.now }
     {
         self.elements.as_slice()
+    }
+
+    /// Lends the elements, to be changed in place.
+    pub fn as_mut_slice(&mut self) -> &mut [T]
+        ensures* writes_back { sem 𝓛 (Lends (the_row T.row) (Array T.row 0) self.entry result (refilled self.old)) }
+        ensures value { result.now ≡ self.old }
+    {
+        self.elements.as_mut_slice()
     }
 
     pub fn len(&self) -> usize

@@ -8,6 +8,7 @@ fn items_grow_and_shrink(rt: HostRuntime) -> Result<(), Fail> {
     assert_eq!(rt; list.len(), 3);
     list.set(0, 9);
     assert_eq!(rt; list.get(0).copied(), Some(9));
+    list.as_mut_slice()[1] = 2;
     assert_eq!(rt; list.pop(), Some(3));
     assert_eq!(rt; list.as_slice(), [9, 2].as_slice());
     let copy = list.clone()?;
