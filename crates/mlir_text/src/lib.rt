@@ -1,19 +1,11 @@
 //! The reader of MLIR texts.
 #![tactic(auto)]
 
-mod block;
-mod body;
 mod fault;
-mod fixed;
-mod literals;
-mod names;
-mod ops;
-mod reader;
-mod statements;
-mod words;
+mod laws;
+mod tokens;
 
 pub use fault::TextFault;
-pub use reader::{one_module, parse};
+pub use laws::{one_answer, one_module, reads_texts};
+pub use module_grammar::{Limited, TextLimits};
 
-#[cfg(test)]
-mod tests;
