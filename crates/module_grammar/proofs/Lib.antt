@@ -11,3 +11,5 @@ pub mod Named
 pub mod Wide
 pub mod NamedForms
 pub mod Stacks
+pub mod FirstWords
+pub mod Passes

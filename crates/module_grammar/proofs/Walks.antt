@@ -27,14 +27,14 @@ use Rattle.module_grammar.proofs.Grows.{Grew, does-grew, grew-both, stays, leads
 -- ---- the actions that stand first
 
 pub settle-run : (level : Level) (k : List Symbol) (s : State) (ts : List Tok)
-    → run (grammar level) k s ts ≡ run (grammar level) (settled k s level).left (settled k s level).state ts
+    → run (grammar level) k s ts ≡ run (grammar level) (settled k s).left (settled k s).state ts
 settle-run level [] s ts = refl
 settle-run level (symbol.Word c ∷ k) s ts = refl
 settle-run level (symbol.Do a ∷ k) s ts = run-act (grammar level) a k s ts ∙ settle-run level k (does a s) ts
 settle-run level (symbol.Rule r ∷ k) s ts = refl
 
 pub settle-leads : (level : Level) (k : List Symbol) (s : State) (ts : List Tok) (s' : State)
-    → Leads (grammar level) (settled k s level).left (settled k s level).state ts s' → Leads (grammar level) k s ts s'
+    → Leads (grammar level) (settled k s).left (settled k s).state ts s' → Leads (grammar level) k s ts s'
 settle-leads level [] s ts s' d = d
 settle-leads level (symbol.Word c ∷ k) s ts s' d = d
 settle-leads level (symbol.Do a ∷ k) s ts s' d = Leads.act a k s ts s' (settle-leads level k (does a s) ts s' d)
@@ -75,21 +75,21 @@ within-before limits s s' g h = record {
 
 -- ---- one token of a walk
 
-abbrev next_state : Level → Place State → State
-next_state level p = (settled p.left p.state level).state
+abbrev pub next_state : Level → Place State → State
+next_state level p = (settled p.left p.state).state
 
-walk-refused : (limits : TextLimits) (level : Level) (k : List Symbol) (s : State) (t : Tok) (ts : List Tok)
+pub walk-refused : (limits : TextLimits) (level : Level) (k : List Symbol) (s : State) (t : Tok) (ts : List Tok)
     → step (grammar level) k s t ≡ None → walk limits level k s (t ∷ ts) ≡ Err (refusal limits level k s t)
 walk-refused limits level k s t ts e = rw (e, walk) refl
 
-walk-passed : (limits : TextLimits) (level : Level) (k : List Symbol) (s : State) (t : Tok) (ts : List Tok) (p : Place State) (f : GrammarFault)
+pub walk-passed : (limits : TextLimits) (level : Level) (k : List Symbol) (s : State) (t : Tok) (ts : List Tok) (p : Place State) (f : GrammarFault)
     → step (grammar level) k s t ≡ Some p → limit_passed limits s (next_state level p) t ≡ Some f
     → walk limits level k s (t ∷ ts) ≡ Err f
 walk-passed limits level k s t ts p f e h = rw (e, walk) (rw h refl)
 
-walk-on : (limits : TextLimits) (level : Level) (k : List Symbol) (s : State) (t : Tok) (ts : List Tok) (p : Place State)
+pub walk-on : (limits : TextLimits) (level : Level) (k : List Symbol) (s : State) (t : Tok) (ts : List Tok) (p : Place State)
     → step (grammar level) k s t ≡ Some p → limit_passed limits s (next_state level p) t ≡ None
-    → walk limits level k s (t ∷ ts) ≡ walk limits level (settled p.left p.state level).left (next_state level p) ts
+    → walk limits level k s (t ∷ ts) ≡ walk limits level (settled p.left p.state).left (next_state level p) ts
 walk-on limits level k s t ts p e h = rw (e, walk) (rw h refl)
 
 -- ---- what is walked
@@ -122,7 +122,7 @@ walked limits level (t ∷ ts) k s s' e =
     by_option (step (grammar level) k s t)
     (λ p f. by_option (limit_passed limits s (next_state level p) t)
     (λ x g. let a : Err x ≡ Ok s' = sym (walk-passed limits level k s t ts p x f g) ∙ e in absurd cc)
-    (λ g. let r = walked limits level ts (settled p.left p.state level).left (next_state level p) s' (sym (walk-on limits level k s t ts p f g) ∙ e) in
+    (λ g. let r = walked limits level ts (settled p.left p.state).left (next_state level p) s' (sym (walk-on limits level k s t ts p f g) ∙ e) in
     record { leads = step-leads (grammar level) k s t ts p s' f (settle-leads level p.left p.state ts s' r.leads); within = r.within }))
     (λ f. let a : Err (refusal limits level k s t) ≡ Ok s' = sym (walk-refused limits level k s t ts f) ∙ e in absurd cc)
 
@@ -139,12 +139,12 @@ walks : (limits : TextLimits) (level : Level) (ts : List Tok) (k : List Symbol) 
 walks limits level [] k s s' e h = end-walks limits level k s s' (close (grammar level) k s) refl e h
 walks limits level (t ∷ ts) k s s' e h =
     by_option (step (grammar level) k s t)
-    (λ p f. let r : run (grammar level) (settled p.left p.state level).left (next_state level p) ts ≡ Ok s' =
+    (λ p f. let r : run (grammar level) (settled p.left p.state).left (next_state level p) ts ≡ Ok s' =
     sym (settle-run level p.left p.state ts) ∙ sym (run-some (grammar level) k s t ts p f) ∙ e in
-    let d = run-leads (grammar level) ts (settled p.left p.state level).left (next_state level p) s' r in
+    let d = run-leads (grammar level) ts (settled p.left p.state).left (next_state level p) s' r in
     walk-on limits level k s t ts p f
     (none-passed limits s (next_state level p) t (within-before limits (next_state level p) s' (leads-grew level _ _ ts s' d) h))
-    ∙ walks limits level ts (settled p.left p.state level).left (next_state level p) s' r h)
+    ∙ walks limits level ts (settled p.left p.state).left (next_state level p) s' r h)
     (λ f. let a : Err (t ∷ ts) ≡ Ok s' = sym (run-none (grammar level) k s t ts f) ∙ e in absurd cc)
 
 is-text : (limits : TextLimits) (level : Level) (ts : List Tok) (m : Module) (o : Result State GrammarFault)
@@ -165,7 +165,7 @@ accepts-exactly limits level ts m = (
 
 settle-good : (level : Level) (k : List Symbol) (s : State)
     → good_then (grammar level) (endings level) k class.End ≡ true
-    → good_then (grammar level) (endings level) (settled k s level).left class.End ≡ true
+    → good_then (grammar level) (endings level) (settled k s).left class.End ≡ true
 settle-good level [] s h = h
 settle-good level (symbol.Word c ∷ k) s h = h
 settle-good level (symbol.Do a ∷ k) s h = settle-good level k (does a s) h
@@ -173,12 +173,12 @@ settle-good level (symbol.Rule r ∷ k) s h = h
 
 -- what begins behind a token that fits, and the other way round
 begins-on : (level : Level) (k : List Symbol) (s : State) (t : Tok) (front : List Tok) (p : Place State) → step (grammar level) k s t ≡ Some p
-    → Begins (grammar level) (settled p.left p.state level).left (next_state level p) front → Begins (grammar level) k s (t ∷ front)
+    → Begins (grammar level) (settled p.left p.state).left (next_state level p) front → Begins (grammar level) k s (t ∷ front)
 begins-on level k s t front p e b =
     begins-before (grammar level) k s t front p e (b.0, b.1, settle-leads level p.left p.state (front ++ b.0) b.1 b.2)
 
 begins-from : (level : Level) (k : List Symbol) (s : State) (t : Tok) (front : List Tok) (p : Place State) → step (grammar level) k s t ≡ Some p
-    → Begins (grammar level) k s (t ∷ front) → Begins (grammar level) (settled p.left p.state level).left (next_state level p) front
+    → Begins (grammar level) k s (t ∷ front) → Begins (grammar level) (settled p.left p.state).left (next_state level p) front
 begins-from level k s t front p e b =
     let c = begins-after (grammar level) k s t front p e b in (
       c.0,
@@ -189,7 +189,7 @@ begins-from level k s t front p e b =
 
 cause-before : (limits : TextLimits) (level : Level) (k : List Symbol) (s : State) (t : Tok) (front : List Tok) (p : Place State)
     (place : Place State) (rest : List Tok) (f : GrammarFault) → step (grammar level) k s t ≡ Some p
-    → IsCause limits level (settled p.left p.state level).left (next_state level p) front place rest f
+    → IsCause limits level (settled p.left p.state).left (next_state level p) front place rest f
     → IsCause limits level k s (t ∷ front) place rest f
 cause-before limits level k s t front p place _ _ e (IsCause.refused u rest h) =
     IsCause.refused u rest (λ b. h (begins-from level k s t (front ++ u ∷ []) p e b))
@@ -199,11 +199,11 @@ cause-before limits level k s t front p place _ _ e (IsCause.cut h) = IsCause.cu
 cause-before limits level k s t front p place _ _ e (IsCause.passed_last last f g i) = IsCause.passed_last last f g i
 
 reached-on : (level : Level) (k : List Symbol) (s : State) (t : Tok) (ts : List Tok) (p : Place State) → step (grammar level) k s t ≡ Some p
-    → reached level k s (t ∷ ts) ≡ reached level (settled p.left p.state level).left (next_state level p) ts
+    → reached level k s (t ∷ ts) ≡ reached level (settled p.left p.state).left (next_state level p) ts
 reached-on level k s t ts p e = rw (e, reached) refl
 
 fault-on : (limits : TextLimits) (level : Level) (k : List Symbol) (s : State) (t : Tok) (ts : List Tok) (p : Place State) (f : GrammarFault)
-    → step (grammar level) k s t ≡ Some p → HasFault limits level (settled p.left p.state level).left (next_state level p) ts f
+    → step (grammar level) k s t ≡ Some p → HasFault limits level (settled p.left p.state).left (next_state level p) ts f
     → HasFault limits level k s (t ∷ ts) f
 fault-on limits level k s t ts p f e h = record {
   front = t ∷ h.front;
@@ -255,7 +255,7 @@ has-fault limits level [] k s f g h e =
     end-fault limits level k s f (close (grammar level) k s) h (completes (grammar level) (endings level) (can-end level) class.End k s g) refl e
 has-fault limits level (t ∷ ts) k s f g h e =
     by_option (step (grammar level) k s t)
-    (λ p i. let gp : good_then (grammar level) (endings level) (settled p.left p.state level).left class.End ≡ true =
+    (λ p i. let gp : good_then (grammar level) (endings level) (settled p.left p.state).left class.End ≡ true =
     settle-good level p.left p.state (step-keeps (grammar level) (endings level) (can-end level) class.End k s t p g i) in
     by_option (limit_passed limits s (next_state level p) t)
     (λ x j. let a : Err x ≡ Err f = sym (walk-passed limits level k s t ts p x i j) ∙ e in
@@ -265,7 +265,7 @@ has-fault limits level (t ∷ ts) k s f g h e =
     (begins-on level k s t [] p i (completes (grammar level) (endings level) (can-end level) class.End _ _ gp)) i
     (j ∙ ap (λ (y : GrammarFault). Some y) same)))
     (λ j. fault-on limits level k s t ts p f i
-    (has-fault limits level ts (settled p.left p.state level).left (next_state level p) f gp (within-now limits s (next_state level p) t j)
+    (has-fault limits level ts (settled p.left p.state).left (next_state level p) f gp (within-now limits s (next_state level p) t j)
     (sym (walk-on limits level k s t ts p i j) ∙ e))))
     (λ i. let a : Err (refusal limits level k s t) ≡ Err f = sym (walk-refused limits level k s t ts i) ∙ e in
     let same : refusal limits level k s t ≡ f = cc in

@@ -14,6 +14,8 @@ use Rattle.module_grammar.specs.declared.symbols.Act.{Act}
 use Rattle.module_grammar.specs.declared.symbols.Act.TheVariants as act
 use Rattle.module_grammar.specs.declared.symbols.Symbol.{Symbol}
 use Rattle.module_grammar.specs.declared.symbols.Symbol.TheVariants as symbol
+use Rattle.module_grammar.specs.declared.sought.Sought.{Sought}
+use Rattle.module_grammar.specs.declared.sought.Sought.TheVariants as sought
 use Rattle.module_grammar.specs.declared.faults.TextLimits.{TextLimits}
 use Rattle.module_grammar.specs.declared.faults.Limited.{Limited}
 use Rattle.module_grammar.specs.declared.faults.Limited.TheVariants as limited
@@ -26,7 +28,7 @@ use Rattle.module_grammar.specs.declared.state.State.{State}
 use Rattle.module_grammar.specs.declared.state.Entry.{Entry}
 use Rattle.module_grammar.specs.declared.state.Entry.TheVariants as entry
 use Rattle.module_grammar.specs.Tokens.{kind_among, number_of, is_number_kind, type_of}
-use Rattle.module_grammar.specs.State.{at_start, module_of, count_of, with_names, up}
+use Rattle.module_grammar.specs.State.{at_start, module_of, count_of, with_names, up, does}
 use Rattle.module_grammar.specs.Rules.{grammar, is_of, is_name, is_value_name, is_byte, is_one, are_new, lines, may_end}
 use Rattle.module_grammar.specs.Texts.{whole, IsText}
 
@@ -43,12 +45,11 @@ pub record IsWithin (limits : TextLimits) (s : State) : Type 0 where
 abbrev pub IsTextWithin : TextLimits → Level → List Tok → Module → Type 0
 IsTextWithin limits level ts m = (s : State) × Leads (grammar level) whole at_start ts s × (m ≡ module_of s) × IsWithin limits s
 
--- the place of the token of number n, or of the last
+-- the place of the token of number n or of the last, or `at` where there is none
 abbrev pub place_in : List Tok → ℕ → ℕ → ℕ
 place_in [] n at = at
-place_in (t ∷ []) n at = t.at
-place_in (t ∷ u ∷ ts) zero at = t.at
-place_in (t ∷ u ∷ ts) (suc n) at = place_in (u ∷ ts) n at
+place_in (t ∷ ts) zero at = t.at
+place_in (t ∷ ts) (suc n) at = place_in ts n t.at
 
 -- the place of the first name with which more than `room` values are named
 abbrev pub name_past : List Name → ℕ → Option ℕ
@@ -70,6 +71,11 @@ value_place limit before t =
     place_in before.held (limit - before.counted)
     (if is_byte 61 t.kind then or_at (name_past before.op.results (limit - before.counted)) t.at else t.at)
 
+-- what a text has begun passes a limit
+abbrev pub passes : TextLimits → State → Bool
+passes limits s =
+    nat_lt limits.operations s.begun || nat_lt limits.functions s.functions || nat_lt limits.depth s.deepest || nat_lt limits.values s.counted
+
 -- the limit that a token passes, by which the state is led to `now`
 abbrev pub limit_passed : TextLimits → State → State → Tok → Option GrammarFault
 limit_passed limits before now t =
@@ -85,13 +91,6 @@ limit_passed limits before now t =
 abbrev pub any_first : (Class → Bool) → List Line → Bool
 any_first test [] = false
 any_first test (l ∷ ls) = test l.first || any_first test ls
-
--- a word of a class that passes the test fits first
-abbrev pub fits_first : Level → (Class → Bool) → List Symbol → Bool
-fits_first level test [] = false
-fits_first level test (symbol.Word c ∷ k) = test c
-fits_first level test (symbol.Do a ∷ k) = fits_first level test k
-fits_first level test (symbol.Rule r ∷ k) = any_first test (lines level r) || (may_end r && fits_first level test k)
 
 abbrev pub is_op_class : Class → Bool
 is_op_class (class.OpName k) = true
@@ -122,6 +121,27 @@ is_result_class _ = false
 abbrev pub is_held_number : Class → Bool
 is_held_number class.HeldNumber = true
 is_held_number _ = false
+
+abbrev pub is_entry_end : Class → Bool
+is_entry_end class.EntryClose = true
+is_entry_end _ = false
+
+-- the classes that are sought
+abbrev pub seeks : Sought → Class → Bool
+seeks sought.Op c = is_op_class c
+seeks sought.Type c = is_type_class c
+seeks sought.Number c = is_number_class c
+seeks sought.Param c = is_param_class c
+seeks sought.Result c = is_result_class c
+seeks sought.HeldNumber c = is_held_number c
+seeks sought.EntryEnd c = is_entry_end c
+
+-- a word of a class that is sought fits first
+abbrev pub fits_first : Level → Sought → List Symbol → Bool
+fits_first level w [] = false
+fits_first level w (symbol.Word c ∷ k) = seeks w c
+fits_first level w (symbol.Do a ∷ k) = fits_first level w k
+fits_first level w (symbol.Rule r ∷ k) = any_first (seeks w) (lines level r) || (may_end r && fits_first level w k)
 
 -- ---- the fault of a token that doesn't fit
 
@@ -162,18 +182,14 @@ wide_fault (entry.Whole (Some n) at) = if nat_le 4294967296 n then Some (fault.S
 wide_fault (entry.Whole None at) = Some (fault.WideNumber at)
 wide_fault _ = None
 
-abbrev pub is_entry_end : Class → Bool
-is_entry_end class.EntryClose = true
-is_entry_end _ = false
-
 -- the fault of the entry of a dictionary that ends here
 abbrev pub entry_fault : Level → List Symbol → State → Tok → Option GrammarFault
 entry_fault level k s t =
-    if fits_first level is_entry_end k && (is_byte 44 t.kind || is_byte 125 t.kind) then wide_fault s.entry else None
+    if fits_first level sought.EntryEnd k && (is_byte 44 t.kind || is_byte 125 t.kind) then wide_fault s.entry else None
 
 -- the results of the next operation are held, and the token is their number, but a wide one
 abbrev pub counts_held : Level → List Symbol → State → Tok → Bool
-counts_held level k s t = fits_first level is_held_number k && is_number_kind t.kind && is_one s.held && are_new s s.held
+counts_held level k s t = fits_first level sought.HeldNumber k && is_number_kind t.kind && is_one s.held && are_new s s.held
 
 -- a second definition of a visible name: the limits that a new name would pass here, else Syntax
 abbrev pub second_fault : TextLimits → Level → List Symbol → State → Tok → GrammarFault
@@ -182,15 +198,31 @@ second_fault limits level k s t =
     else (if nat_lt limits.values (up (with_names s.counted (results_open k s)) 1) then fault.Limit limited.Values t.at else fault.Syntax t.at)
   where
     begins : Bool
-    begins = fits_first level is_op_class k
+    begins = fits_first level sought.Op k
+
+-- an operation's name fits here, and the token is a name that no operation of the level has
+abbrev pub is_unknown_op : Level → List Symbol → Tok → Bool
+is_unknown_op level k t = fits_first level sought.Op k && is_name t.kind && not (has_row level t.text)
+
+-- a type fits here, and the token begins none
+abbrev pub is_unknown_type : Level → List Symbol → Tok → Bool
+is_unknown_type level k t = fits_first level sought.Type k && not (begins_type t)
+
+-- a number fits here, and the token is one
+abbrev pub is_wide_number : Level → List Symbol → Tok → Bool
+is_wide_number level k t = fits_first level sought.Number k && is_number_kind t.kind
+
+-- a new name fits here, and the token is a name
+abbrev pub is_second_name : Level → List Symbol → Tok → Bool
+is_second_name level k t = is_value_name t.kind && (fits_first level sought.Param k || fits_first level sought.Result k)
 
 -- the fault of a token that doesn't fit, where no name before it passes a limit
 abbrev pub token_fault : TextLimits → Level → List Symbol → State → Tok → GrammarFault
 token_fault limits level k s t =
-    if fits_first level is_op_class k && is_name t.kind && not (has_row level t.text) then fault.UnknownOp t.at
-    else (if fits_first level is_type_class k && not (begins_type t) then fault.UnknownType t.at
-    else (if fits_first level is_number_class k && is_number_kind t.kind then fault.WideNumber t.at
-    else (if is_value_name t.kind && (fits_first level is_param_class k || fits_first level is_result_class k) then second_fault limits level k s t
+    if is_unknown_op level k t then fault.UnknownOp t.at
+    else (if is_unknown_type level k t then fault.UnknownType t.at
+    else (if is_wide_number level k t then fault.WideNumber t.at
+    else (if is_second_name level k t then second_fault limits level k s t
     else fault.Syntax t.at)))
 
 -- the operations begun pass their limit at the name held, or the values do
@@ -203,18 +235,19 @@ abbrev pub names_fault : Option ℕ → GrammarFault → GrammarFault
 names_fault (Some at) other = fault.Limit limited.Values at
 names_fault None other = other
 
+-- the place of the last name, or the one before
+abbrev pub last_place : List Name → Option ℕ → Option ℕ
+last_place [] before = before
+last_place (n ∷ ns) before = last_place ns (Some n.at)
+
+-- the place of the name that passes the limit, or of the last where the token is a wide number of its values
+abbrev pub past_or_wide : Option ℕ → List Symbol → State → Tok → Option ℕ
+past_or_wide (Some at) k s t = Some at
+past_or_wide None k s t = if counts_values k && is_number_kind t.kind then last_place s.op.results None else None
+
 -- the place of the name that passes the limit, among results whose `=` isn't read yet; a wide number counts more than any limit
 abbrev pub open_name_past : TextLimits → List Symbol → State → Tok → Option ℕ
-open_name_past limits k s t = past (name_past (results_open k s) (limits.values - s.counted))
-  where
-    last_place : List Name → Option ℕ
-    last_place [] = None
-    last_place (n ∷ []) = Some n.at
-    last_place (n ∷ m ∷ ns) = last_place (m ∷ ns)
-
-    past : Option ℕ → Option ℕ
-    past (Some at) = Some at
-    past None = if counts_values k && is_number_kind t.kind then last_place s.op.results else None
+open_name_past limits k s t = past_or_wide (name_past (results_open k s) (limits.values - s.counted)) k s t
 
 abbrev pub fault_or : Option GrammarFault → GrammarFault → GrammarFault
 fault_or (Some f) other = f
@@ -229,11 +262,11 @@ refusal limits level k s t =
 -- ---- the whole text
 
 -- the symbols and the state behind the actions that stand first
-abbrev pub settled : List Symbol → State → Level → Place State
-settled [] s level = record { left = []; state = s }
-settled (symbol.Do a ∷ k) s level = settled k ((grammar level).does a s) level
-settled (symbol.Word c ∷ k) s level = record { left = symbol.Word c ∷ k; state = s }
-settled (symbol.Rule r ∷ k) s level = record { left = symbol.Rule r ∷ k; state = s }
+abbrev pub settled : List Symbol → State → Place State
+settled [] s = record { left = []; state = s }
+settled (symbol.Do a ∷ k) s = settled k (does a s)
+settled (symbol.Word c ∷ k) s = record { left = symbol.Word c ∷ k; state = s }
+settled (symbol.Rule r ∷ k) s = record { left = symbol.Rule r ∷ k; state = s }
 
 -- at the end of the tokens, which is that of a text where nothing is left
 abbrev pub ended : TextLimits → Option State → State → Result State GrammarFault
@@ -248,9 +281,9 @@ abbrev pub walk : TextLimits → Level → List Symbol → State → List Tok �
 walk limits level k s [] = ended limits (close (grammar level) k s) s
 walk limits level k s (t ∷ ts) = elim (step (grammar level) k s t) [
   | None ↦ Err (refusal limits level k s t)
-  | Some p ↦ elim (limit_passed limits s (settled p.left p.state level).state t) [
+  | Some p ↦ elim (limit_passed limits s (settled p.left p.state).state t) [
     | Some f ↦ Err f
-    | None ↦ walk limits level (settled p.left p.state level).left (settled p.left p.state level).state ts
+    | None ↦ walk limits level (settled p.left p.state).left (settled p.left p.state).state ts
   ]
 ]
 
@@ -269,7 +302,7 @@ abbrev pub reached : Level → List Symbol → State → List Tok → Option (Pl
 reached level k s [] = Some (record { left = k; state = s })
 reached level k s (t ∷ ts) = elim (step (grammar level) k s t) [
   | None ↦ None
-  | Some p ↦ reached level (settled p.left p.state level).left (settled p.left p.state level).state ts
+  | Some p ↦ reached level (settled p.left p.state).left (settled p.left p.state).state ts
 ]
 
 -- Why a fault is that of a text, of which the front leads to the place and the rest is left: the next token doesn't fit, or it
@@ -280,7 +313,7 @@ pub data IsCause (limits : TextLimits) (level : Level) (k : List Symbol) (s : St
       → IsCause limits level k s front place (t ∷ rest) (refusal limits level place.left place.state t)
   passed : (t : Tok) (rest : List Tok) (p : Place State) (f : GrammarFault) → Begins (grammar level) k s (front ++ t ∷ [])
       → step (grammar level) place.left place.state t ≡ Some p
-      → limit_passed limits place.state (settled p.left p.state level).state t ≡ Some f
+      → limit_passed limits place.state (settled p.left p.state).state t ≡ Some f
       → IsCause limits level k s front place (t ∷ rest) f
   cut : close (grammar level) place.left place.state ≡ None
       → IsCause limits level k s front place [] (fault.Syntax place.state.last.at)

@@ -33,7 +33,7 @@ fn is_word(keyword: Keyword, text: &[u8]) -> bool
     }
 }
 
-fn is_byte(byte: u8, kind: TokenKind) -> bool
+pub(crate) fn is_byte(byte: u8, kind: TokenKind) -> bool
     ensures { result ≡ is_byte byte kind }
 {
     match kind {

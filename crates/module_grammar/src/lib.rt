@@ -11,13 +11,18 @@ mod dispatch;
 mod faults;
 mod forms;
 mod laws;
+mod limits;
 mod lines;
 mod machine;
 mod names;
 mod numbers;
 mod params;
 mod parts;
+mod places;
+mod reader;
+mod refusal;
 mod region_acts;
+mod sought;
 mod state;
 mod strings;
 mod symbols;
@@ -31,5 +36,7 @@ pub use laws::{
     reads_texts_alone,
 };
 pub use state::{Entry, Name, OpenBody, OpenFunc, OpenOp, Outer, Param, State, Tok};
+pub use reader::read;
+pub use sought::Sought;
 pub use symbols::{Act, Class, Keyword, Rule, Symbol};
 pub use types::DimSoFar;

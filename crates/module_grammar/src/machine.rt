@@ -1,17 +1,22 @@
 //! The machine: a stack of symbols that one token after another takes down and builds up.
 ghost use Rattle.std.specs.Prelude.{◌≡◌, ◌++◌, Some, None, IfOk, OnOk, MatchBool, reverse};
-ghost use Rattle.module_grammar.specs.Engine.{step};
+ghost use Rattle.module_grammar.specs.Engine.{step, close};
 ghost use Rattle.module_grammar.specs.Rules.{grammar};
 ghost use Rattle.module_grammar.specs.Choices.{line_of};
-ghost use Rattle.module_grammar.specs.Machines.{place_of};
+ghost use Rattle.module_grammar.specs.State.{at_start, module_of};
+ghost use Rattle.module_grammar.specs.Faults.{settled};
+ghost use Rattle.module_grammar.specs.Machines.{place_of, IsStart, IsClosed};
+ghost use Rattle.op_table.specs.declared.rows.Level.TheVariants.{Source};
 
 use crate::choose::may_end;
 use crate::lines::Choice;
-use crate::state::{State, Tok};
-use crate::symbols::Symbol;
-use ir_forms::Level;
+use crate::state::{Entry, OpenBody, OpenFunc, OpenOp, State, Tok};
+use crate::symbols::{Class, Rule, Symbol};
+use ir_forms::{Level, Module};
 use lists::Items;
+use mlir_lex::TokenKind;
 use std::alloc::{AllocError, Global};
+use std::mem;
 
 /// What is left of the symbols, the first last, and the state.
 #[derive(Drop)]
@@ -43,7 +48,62 @@ fn push_line(stack: &mut Items<Symbol>, choice: Choice) -> Result<(), AllocError
     push_all(stack, choice.before)
 }
 
+impl State {
+    /// The state before the first token.
+    fn start(alloc: Global) -> State
+        ensures { result ≡ at_start }
+    {
+        State {
+            last: Tok {
+                kind: TokenKind::End,
+                text: Items::new(alloc),
+                at: 0,
+                joined: false,
+            },
+            read: Items::new(alloc),
+            visible: Items::new(alloc),
+            next: 0,
+            used: Items::new(alloc),
+            begun: 0,
+            functions: 0,
+            deepest: 0,
+            counted: 0,
+            op: OpenOp::blank(alloc, 0),
+            body: OpenBody::blank(alloc),
+            outer: Items::new(alloc),
+            held: Items::new(alloc),
+            entry: Entry::Fresh,
+            entry_at: None,
+            func: OpenFunc::blank(alloc, 0),
+            funcs: Items::new(alloc),
+        }
+    }
+}
+
 impl Machine {
+    /// What is left of the symbols, the first first.
+    #[tactic(auto, using(crate::proofs::Stacks::turned))]
+    pub fn left(&self, alloc: Global) -> Result<Items<Symbol>, AllocError>
+        ensures { IfOk result (λ left. left ≡ reverse self.now.stack) }
+    {
+        let mut left = Items::new(alloc);
+        push_all(&mut left, self.stack.as_slice())?;
+        Ok(left)
+    }
+
+    /// The machine before the first token of a text.
+    pub fn start(alloc: Global) -> Result<Machine, AllocError>
+        ensures { IfOk result (λ machine. IsStart machine) }
+    {
+        let mut stack = Items::new(alloc);
+        stack.push(Symbol::Word(Class::End))?;
+        stack.push(Symbol::Rule(Rule::Text))?;
+        Ok(Machine {
+            stack,
+            state: State::start(alloc),
+        })
+    }
+
     /// Takes a token. Where it doesn't fit the machine is no longer of use.
     #[tactic(auto, using(crate::proofs::Stacks::reverse_pushed))]
     pub fn step(&mut self, alloc: Global, level: Level, token: Tok) -> Result<bool, AllocError>
@@ -72,5 +132,51 @@ impl Machine {
             }
         }
         Ok(false)
+    }
+
+    /// Does the acts that stand on top. Without memory the machine is no longer of use.
+    #[tactic(auto, using(crate::proofs::Stacks::reverse_pushed))]
+    pub fn settle(&mut self, alloc: Global) -> Result<(), AllocError>
+        ensures { OnOk result (place_of self.new ≡ settled (reverse self.old.stack) self.old.state) }
+    {
+        while let Some(symbol) = self.stack.pop() {
+            match symbol {
+                Symbol::Do(act) => self.state.act(alloc, act)?,
+                Symbol::Word(_) | Symbol::Rule(_) => {
+                    self.stack.push(symbol)?;
+                    return Ok(());
+                }
+            }
+        }
+        Ok(())
+    }
+
+    /// Whether the text, of any level, is at its end behind the last token. Else, or without memory, the machine is no longer of
+    /// use.
+    #[tactic(auto, using(crate::proofs::Stacks::reverse_pushed))]
+    pub fn close(&mut self, alloc: Global) -> Result<bool, AllocError>
+        ensures { IfOk result (λ closed. IsClosed closed (close (grammar Source) (reverse self.old.stack) self.old.state) self.new.state) }
+    {
+        while let Some(symbol) = self.stack.pop() {
+            match symbol {
+                Symbol::Do(act) => self.state.act(alloc, act)?,
+                Symbol::Word(_) => return Ok(false),
+                Symbol::Rule(rule) => {
+                    if !may_end(rule) {
+                        return Ok(false);
+                    }
+                }
+            }
+        }
+        Ok(true)
+    }
+
+    /// The functions that were read.
+    pub fn take_module(&mut self, alloc: Global) -> Module
+        ensures { result ≡ module_of self.old.state }
+    {
+        Module {
+            funcs: mem::replace(&mut self.state.funcs, Items::new(alloc)),
+        }
     }
 }

@@ -30,7 +30,7 @@ impl Name {
     }
 
     /// How many values the name has.
-    fn values(&self) -> u64
+    pub(crate) fn values(&self) -> u64
         ensures { result ≡ count_of self.now.count }
     {
         self.count.unwrap_or(1)

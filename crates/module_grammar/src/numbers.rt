@@ -6,6 +6,13 @@ ghost use Rattle.module_grammar.specs.State.{index_of};
 use crate::state::Tok;
 use mlir_lex::TokenKind;
 
+/// Whether tokens of the kind are numbers.
+pub(crate) fn is_number(kind: TokenKind) -> bool
+    ensures { result ≡ is_number_kind kind }
+{
+    matches!(kind, TokenKind::Digits | TokenKind::Hex)
+}
+
 /// The value of a decimal or hexadecimal digit.
 pub(crate) fn digit_of(byte: u8) -> u64
     ensures { result ≡ digit_of byte }
