@@ -19,13 +19,9 @@ use Rattle.module_grammar.specs.Faults.{IsTextWithin, HasFault, parsed, AcceptsE
 use Rattle.mlir_text.specs.declared.fault.TextFault.{TextFault}
 use Rattle.mlir_text.specs.declared.fault.TextFault.TheVariants.{Lex, Syntax, UnknownOp, UnknownType, WideNumber, Limit, OutOfMemory}
 use Rattle.mlir_text.specs.Tokens.{AreToksOf, toks_of}
-use Rattle.mlir_text.specs.Texts.{IsTextOf, HasGrammarFault, HasLexFault, IsRefused, IsParsed, told, OneModule, OneAnswer, ReadsTexts}
+use Rattle.mlir_text.specs.Texts.{IsTextOf, HasGrammarFault, HasLexFault, IsRefused, IsParsed, told, answer_of, OneModule, OneAnswer, ReadsTexts}
 
 -- ---- what a call tells
-
-abbrev pub answer_of : Result Module GrammarFault → Result Module TextFault
-answer_of (Ok m) = Ok m
-answer_of (Err f) = Err (told f)
 
 -- the answer of a text with these tokens
 pub parsed_is : AcceptsExactly → NamesFirstFault → (limits : TextLimits) (level : Level) (text : List ℕ) (toks : List Tok) (found : Result Module GrammarFault)

@@ -51,6 +51,11 @@ told (grammar.UnknownType at) = UnknownType at
 told (grammar.WideNumber at) = WideNumber at
 told (grammar.Limit which at) = Limit which at
 
+-- the answer to a text, of what its tokens stand for
+abbrev pub answer_of : Result Module GrammarFault → Result Module TextFault
+answer_of (Ok m) = Ok m
+answer_of (Err f) = Err (told f)
+
 -- ---- the laws
 
 -- a text stands for one module

@@ -9,12 +9,7 @@ use module_grammar::Tok;
 use std::alloc::{AllocError, Global};
 
 /// A token with its bytes. `end` is where the one before ends.
-fn tok_of(
-    alloc: Global,
-    bytes: &[u8],
-    end: Option<u32>,
-    token: Token,
-) -> Result<Tok, AllocError>
+fn tok_of(alloc: Global, bytes: &[u8], end: Option<u32>, token: Token) -> Result<Tok, AllocError>
     requires start { token.start ≤ token.end }
     requires end { token.end ≤ length bytes.now }
     ensures { IfOk result (λ tok. tok ≡ spec.tok_of bytes.now end token) }

@@ -31,7 +31,13 @@ fn reads_regions_to_the_limit(rt: HostRuntime) -> Result<(), Fail> {
     let deeper = nested(rt.alloc(), 64)?;
     let fault = read(&rt, rt.alloc(), &deeper).err();
     let at = 23 + 63 * 12 + 10;
-    assert_eq!(rt; fault, Some(TextFault::Limit { which: Limited::Depth, at }));
+    assert_eq!(rt;
+        fault,
+        Some(TextFault::Limit {
+            which: Limited::Depth,
+            at
+        })
+    );
     Ok(())
 }
 

@@ -381,7 +381,10 @@ fn refuses_each_front(rt: HostRuntime) {
         let bytes = text.as_bytes();
         let last = bytes.iter().rposition(|byte| *byte == b'}').unwrap_or(0);
         for len in 1..=last.min(bytes.len()) {
-            assert!(rt; read(&rt, rt.alloc(), &bytes[..len]).is_err(), "{len}: {text}");
+            assert!(rt;
+                read(&rt, rt.alloc(), &bytes[..len]).is_err(),
+                "{len}: {text}"
+            );
         }
     }
 }
@@ -389,6 +392,7 @@ fn refuses_each_front(rt: HostRuntime) {
 #[test]
 fn reads_a_launch(rt: HostRuntime) -> Result<(), Fail> {
     let text = TEXTS[1].0;
-    let wanted = "@main#1 -> i64 { async.execute#2/0/0 = 0,1 : token, value i64 { arith.constant#3 = 2 : i64 7; async.yield#4 2 of i64; }; async.await#5 1 of value i64 = 3 : i64; func.return#6 3 of i64; }\n";
+    let wanted =
+        "@main#1 -> i64 { async.execute#2/0/0 = 0,1 : token, value i64 { arith.constant#3 = 2 : i64 7; async.yield#4 2 of i64; }; async.await#5 1 of value i64 = 3 : i64; func.return#6 3 of i64; }\n";
     assert_shown(&rt, rt.alloc(), text, wanted)
 }
