@@ -1,10 +1,1 @@
-pub mod Cuts
-pub mod Decimals
-pub mod Growth
-pub mod Headers
-pub mod Maps
-pub mod Spelling
-pub mod Steps
-pub mod Texts
-pub mod Trees
-pub mod WordLaws
+pub mod Answers

@@ -1,6 +1,2 @@
-pub mod Grammar
-pub mod Names
-pub mod Reading
-pub mod Scopes
-pub mod Statements
-pub mod Words
+pub mod Tokens
+pub mod Texts

@@ -1,19 +1,15 @@
 //! The reader of MLIR texts.
 #![tactic(auto)]
 
-mod block;
-mod body;
 mod fault;
-mod fixed;
-mod literals;
-mod names;
-mod ops;
+mod laws;
 mod reader;
-mod statements;
-mod words;
+mod tokens;
 
 pub use fault::TextFault;
-pub use reader::{one_module, parse};
+pub use laws::{one_answer, one_module, reads_texts};
+pub use module_grammar::{Limited, TextLimits};
+pub use reader::{PROGRAM_LIMITS, parse};
 
 #[cfg(test)]
 mod tests;

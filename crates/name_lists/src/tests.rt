@@ -1,0 +1,82 @@
+use crate::{HasName, NameList, hash_of};
+use lists::Items;
+use std::alloc::{AllocError, Global};
+use std::test::Fail;
+
+#[derive(Drop)]
+struct Word {
+    text: Items<u8>,
+}
+
+impl HasName for Word {
+    ghost text = { λ w. w.text };
+
+    fn name(&self) -> &[u8] {
+        self.text.as_slice()
+    }
+}
+
+fn make_word(alloc: Global, number: usize) -> Result<Word, AllocError> {
+    let text = format!(in alloc; "w{number}")?;
+    Ok(Word {
+        text: Items::from_slice(alloc, text.as_bytes())?,
+    })
+}
+
+fn words(alloc: Global, count: usize) -> Result<NameList<Word>, AllocError> {
+    let mut list = NameList::new(alloc);
+    for number in 0..count {
+        list.push(alloc, make_word(alloc, number)?)?;
+    }
+    Ok(list)
+}
+
+#[test]
+fn finds_the_first_of_each_name(rt: HostRuntime) -> Result<(), Fail> {
+    let mut list = words(rt.alloc(), 100)?;
+    list.append(rt.alloc(), words(rt.alloc(), 50)?)?;
+    assert_eq!(rt; list.len(), 150);
+    for number in 0..100usize {
+        let sought = make_word(rt.alloc(), number)?;
+        assert_eq!(rt; list.first(sought.name()), Some(number));
+    }
+    assert_eq!(rt; list.first(b"w100"), None);
+    list.truncate(70);
+    assert_eq!(rt; list.first(b"w69"), Some(69));
+    assert_eq!(rt; list.first(b"w70"), None);
+    list.push(rt.alloc(), make_word(rt.alloc(), 70)?)?;
+    assert_eq!(rt; list.first(b"w70"), Some(70));
+    assert_eq!(rt; list.as_slice().len(), 71);
+    assert_eq!(rt; list.into_items().len(), 71);
+    Ok(())
+}
+
+#[test]
+fn finds_nothing_in_an_empty_list(rt: HostRuntime) {
+    let mut list: NameList<Word> = NameList::new(rt.alloc());
+    assert_eq!(rt; list.first(b""), None);
+    list.truncate(0);
+    assert_eq!(rt; list.len(), 0);
+}
+
+/// The values are those of FNV-1a.
+#[test]
+fn hashes_names(rt: HostRuntime) {
+    assert_eq!(rt; hash_of(b""), 0x811c_9dc5);
+    assert_eq!(rt; hash_of(b"a"), 0xe40c_292c);
+    assert_eq!(rt; hash_of(b"foobar"), 0xbf9c_f968);
+}
+
+/// Sixty thousand names, each sought: too many for a look from end to end.
+#[test]
+fn finds_each_of_many_at_once(rt: HostRuntime) -> Result<(), Fail> {
+    let list = words(rt.alloc(), 60_000)?;
+    let mut missed = 0u32;
+    for (place, sought) in list.as_slice().iter().enumerate() {
+        if list.first(sought.name()) != Some(place) {
+            missed = missed.wrapping_add(1);
+        }
+    }
+    assert_eq!(rt; missed, 0);
+    Ok(())
+}
