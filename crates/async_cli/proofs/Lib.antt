@@ -1,4 +1,5 @@
 pub mod Driving
+pub mod Entries
 pub mod Places
 pub mod Stuck
 pub mod Telling

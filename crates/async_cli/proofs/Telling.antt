@@ -1,7 +1,8 @@
 -- How the parts of a call make its answer.
-use Rattle.std.proofs.Common.{◌≡◌, ◌≤◌, ◌<◌, ℕ, List, [], length, Option, Some, None, Result, Ok, Err, MatchResult, Vec, Global, refl, sym, ap, subst, inl, inr, codes}
+use Rattle.std.proofs.Common.{◌≡◌, ◌≤◌, ◌<◌, ℕ, List, [], length, Option, Some, None, Result, Ok, Err, MatchResult, Vec, Global, refl, sym, ap, subst, inl, inr, codes, ◌∙◌}
 use Rattle.aio_base.specs.Whole.{Told}
 use Rattle.ir_forms.specs.declared.ops.Func.{Func}
+use Rattle.ir_forms.specs.declared.ops.Module.{Module}
 use Rattle.step_core.specs.declared.code.Straight.{Straight}
 use Rattle.step_core.specs.declared.ends.Entry.{Entry}
 use Rattle.step_core.specs.Code.{straight_of}
@@ -9,11 +10,14 @@ use Rattle.step_core.specs.Journal.{replay}
 use Rattle.step_core.specs.State.{State, start_state, IsFinished}
 use Rattle.step_core.specs.Laws.{StraightReplaysMean}
 use Rattle.async_cli.specs.declared.stops.Stop.{Stop}
+use Rattle.async_cli.specs.declared.stops.Stop.TheVariants.{OutOfMemory}
 use Rattle.async_cli.specs.declared.tool_stops.ToolStop.{ToolStop}
+use Rattle.async_cli.specs.declared.tool_stops.ToolStop.TheVariants.{Shared}
 use Rattle.async_cli.specs.declared.words.Flags.{Flags}
 use Rattle.async_cli.specs.Stops.{stop_text, tool_status, tool_text}
 use Rattle.async_cli.specs.Texts.{run_text}
-use Rattle.async_cli.specs.Answers.{Given, Gave, text_limit, IsInput, HasEntry}
+use Rattle.async_cli.specs.Answers.{Given, Gave, text_limit, IsInput, IsAccepted, IsEntry, EntryStops, HasEntry, TextStops}
+use Rattle.async_cli.specs.Checks.{CheckEnds, CheckCauses, accepted_line}
 use Rattle.async_cli.specs.Inputs.{input_limit, IsSplit}
 use Rattle.async_cli.specs.Replays.{IsGiven, AreLines, EntryListStops, ReplayCauses, ReplayEnds}
 use Rattle.async_cli.specs.Tools.{ToolOwes}
@@ -93,3 +97,35 @@ pub replay_owed : (given : Given) (flags : Flags) (result : Result (Vec ℕ Glob
     MatchResult result (λ t. ToolOwes given 0 t.items) (λ stop. ToolOwes given (tool_status stop) (tool_text stop))
 replay_owed given flags (Ok text) asked ends = ToolOwes.replayed flags text.items asked ends
 replay_owed given flags (Err stop) asked causes = ToolOwes.not_replayed flags stop asked causes
+
+-- ---- `check`
+
+-- what the line of an accepted module makes of the whole call
+pub checked : (source : Told) (bytes shown : List ℕ) (program seen : Module) (result : Result (Vec ℕ Global) ToolStop) →
+    IsInput text_limit source bytes → shown ≡ bytes → IsAccepted shown program → seen ≡ program →
+    MatchResult result (λ t. t.items ≡ accepted_line seen) (λ stop. stop ≡ Shared OutOfMemory) →
+    MatchResult result (λ t. CheckEnds source t.items) (λ stop. CheckCauses source stop)
+checked source bytes shown program seen (Ok text) input same accepted is told = record {
+  bytes = bytes;
+  program = program;
+  input = input;
+  accepted = subst (λ b. IsAccepted b program) same accepted;
+  told = told ∙ ap accepted_line is;
+}
+checked source bytes shown program seen (Err stop) input same accepted is told =
+    subst (CheckCauses source) (sym told) (CheckCauses.input OutOfMemory tt)
+
+pub check_owed : (given : Given) (flags : Flags) (result : Result (Vec ℕ Global) ToolStop) → Asks (codes "check") given flags →
+    MatchResult result (λ t. CheckEnds given.source t.items) (λ stop. CheckCauses given.source stop) →
+    MatchResult result (λ t. ToolOwes given 0 t.items) (λ stop. ToolOwes given (tool_status stop) (tool_text stop))
+check_owed given flags (Ok text) asked ends = ToolOwes.checked flags text.items asked ends
+check_owed given flags (Err stop) asked causes = ToolOwes.not_checked flags stop asked causes
+
+-- ---- the entry
+
+-- what an accepted module's entry makes of its text
+pub entered : (text : List ℕ) (program : Module) (result : Result Straight Stop) → IsAccepted text program →
+    MatchResult result (λ code. (entry : Func) × (IsEntry program entry × (code ≡ straight_of entry))) (λ stop. EntryStops program stop) →
+    MatchResult result (λ code. (entry : Func) × (HasEntry text entry × (code ≡ straight_of entry))) (λ stop. TextStops text stop)
+entered text program (Ok code) accepted found = (found.0, ((program, (accepted, found.1.0)), found.1.1))
+entered text program (Err stop) accepted stops = inr (program, (accepted, stops))

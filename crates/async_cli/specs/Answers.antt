@@ -1,14 +1,25 @@
 -- What the commands have in common: what a call reads and writes, and in which order it refuses.
-use Rattle.std.specs.Prelude.{ℕ, ◌≡◌, ◌≤◌, ◌⊎◌, if◌then◌else◌, List, [], ◌∷◌, length, Option, Some, None, ⊤, codes}
-use Rattle.std.specs.Str.{bytes_eq}
+use Rattle.std.specs.Prelude.{ℕ, ◌≡◌, ◌≤◌, ◌⊎◌, List, [], length, slice_get, Option, Some, None, Result, Ok, Err, ⊤, codes}
 use Rattle.std.specs.Io.KnownBytes.{Appends}
 use Rattle.aio_base.specs.Faults.{Rose}
 use Rattle.aio_base.specs.Whole.{Told, ReadsWhole, ReadsPast, WritesFront}
 use Rattle.ir_forms.specs.declared.ops.Func.{Func}
 use Rattle.ir_forms.specs.declared.ops.Module.{Module}
-use Rattle.mlir_text.specs.Grammar.{IsText}
+use Rattle.ir_forms.specs.declared.runs.FuncNo.{FuncNo}
+use Rattle.ir_forms.specs.Numbers.{renumbered}
+use Rattle.op_table.specs.declared.rows.Level.TheVariants.{Source}
+use Rattle.module_grammar.specs.declared.faults.TextLimits.{TextLimits}
+use Rattle.mlir_text.specs.declared.fault.TextFault.TheVariants as text_fault
+use Rattle.mlir_text.specs.Texts.{IsTextOf, IsRefused}
+use Rattle.ir_verify.specs.declared.entry.EntryFault.{EntryFault}
+use Rattle.ir_verify.specs.declared.entry.EntryFault.TheVariants as entry_fault
+use Rattle.ir_verify.specs.Entry.{entry_from}
+use Rattle.ir_verify.specs.Verdict.{IsSound, IsFirst}
 use Rattle.async_cli.specs.declared.stops.Stop.{Stop}
-use Rattle.async_cli.specs.declared.stops.Stop.TheVariants.{Read, TooLong, NotYet, NoEntry, OutOfMemory}
+use Rattle.async_cli.specs.declared.stops.Stop.TheVariants.{Read, TooLong, NoEntry, EntryType, NotYet, OutOfMemory}
+use Rattle.async_cli.specs.declared.stops.Stop.TheVariants as stop
+use Rattle.async_cli.specs.declared.stops.ModuleFault.TheVariants.{Text, Verify}
+use Rattle.async_cli.specs.NotYet.{first_not_yet}
 
 -- what a call is given: its words, and what its source tells before it and after it
 pub record Given : Type 0 where
@@ -39,24 +50,52 @@ InputStops limit source (TooLong most) = (most ≡ limit) × ReadsPast source.le
 InputStops limit source OutOfMemory = ⊤
 InputStops limit source _ = ⊥
 
--- the first function of this name
-abbrev pub func_named : List ℕ → List Func → Option Func
-func_named name [] = None
-func_named name (f ∷ fs) = if bytes_eq f.name name then Some f else func_named name fs
+-- how much a module's text may hold
+abbrev pub text_limits : TextLimits
+text_limits = record { operations = 65536; functions = 1024; depth = 64; values = 1048576 }
 
-abbrev pub entry_of : Module → Option Func
-entry_of program = func_named (codes "main") program.funcs
+-- the text is that of this module, whose operations are numbered by their places
+abbrev pub ReadsModule : List ℕ → Module → Type 0
+ReadsModule text program = (m : Module) × (IsTextOf text_limits Source text m × (program ≡ renumbered m))
 
--- the text is that of a module with this entry
+-- the text is that of this module, which breaks no rule
+abbrev pub IsAccepted : List ℕ → Module → Type 0
+IsAccepted text program = ReadsModule text program × IsSound program.funcs
+
+-- why a text gives no module that breaks no rule
+abbrev pub ModuleStops : List ℕ → Stop → Type 0
+ModuleStops text (stop.Module (Text text_fault.OutOfMemory)) = ⊥
+ModuleStops text (stop.Module (Text fault)) = IsRefused text_limits Source text fault
+ModuleStops text (stop.Module (Verify op kind)) = (program : Module) × (ReadsModule text program × IsFirst program.funcs (record { op = op; kind = kind }))
+ModuleStops text OutOfMemory = ⊤
+ModuleStops text _ = ⊥
+
+-- the first function that is called `main`
+abbrev pub entry_of : Module → Result FuncNo EntryFault
+entry_of program = entry_from 0 program.funcs (codes "main")
+
+-- this function of the module is its entry, and a run can take all of its operations
+pub record IsEntry (program : Module) (entry : Func) : Type 0 where
+  pub number : FuncNo
+  pub found : entry_of program ≡ Ok number
+  pub is : slice_get program.funcs number.0 ≡ Some entry
+  pub runs : first_not_yet program ≡ None
+
+-- the text is that of a module with this entry, which breaks no rule
 abbrev pub HasEntry : List ℕ → Func → Type 0
-HasEntry text entry = (program : Module) × (IsText text program × (entry_of program ≡ Some entry))
+HasEntry text entry = (program : Module) × (IsAccepted text program × IsEntry program entry)
 
--- why a text gives no function to run
-abbrev pub EntryStops : List ℕ → Stop → Type 0
-EntryStops text NotYet = (program : Module) → IsText text program → ⊥
-EntryStops text NoEntry = (program : Module) × (IsText text program × (entry_of program ≡ None))
-EntryStops text OutOfMemory = ⊤
-EntryStops text _ = ⊥
+-- why a module has no entry that can be run
+abbrev pub EntryStops : Module → Stop → Type 0
+EntryStops program NoEntry = entry_of program ≡ Err entry_fault.NoEntry
+EntryStops program (EntryType op) = entry_of program ≡ Err (entry_fault.EntryType op)
+EntryStops program (NotYet op) = ((number : FuncNo) × (entry_of program ≡ Ok number)) × (first_not_yet program ≡ Some op)
+EntryStops program OutOfMemory = ⊤
+EntryStops program _ = ⊥
+
+-- why a text gives no function to run: it gives no module that breaks no rule, or that module has no entry that can be run
+abbrev pub TextStops : List ℕ → Stop → Type 0
+TextStops text stop = ModuleStops text stop ⊎ ((program : Module) × (IsAccepted text program × EntryStops program stop))
 
 -- ---- what is written
 

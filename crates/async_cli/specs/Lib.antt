@@ -1,7 +1,9 @@
 pub mod Answers
+pub mod Checks
 pub mod Driven
 pub mod Held
 pub mod Inputs
+pub mod NotYet
 pub mod Replays
 pub mod Runs
 pub mod Stops

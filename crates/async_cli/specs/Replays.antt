@@ -15,7 +15,7 @@ use Rattle.async_cli.specs.declared.tool_stops.ToolStop.{ToolStop}
 use Rattle.async_cli.specs.declared.tool_stops.ToolStop.TheVariants.{Shared, BadLine, NotARun, Unfinished}
 use Rattle.async_cli.specs.declared.words.Flags.{Flags}
 use Rattle.async_cli.specs.Held.{IsUnfinished}
-use Rattle.async_cli.specs.Answers.{text_limit, IsInput, InputStops, HasEntry, EntryStops}
+use Rattle.async_cli.specs.Answers.{text_limit, IsInput, InputStops, HasEntry, TextStops}
 use Rattle.async_cli.specs.Inputs.{input_limit, IsSplit}
 use Rattle.async_cli.specs.Runs.{LeadsTo, Finishes}
 
@@ -61,7 +61,7 @@ pub data ReplayCauses (source : Told) : ToolStop → Type 0 where
   long_text : (text : List ℕ) (journal : Option (List ℕ)) → IsGiven source text journal → text_limit < length text
       → ReplayCauses source (Shared (stop.TooLong text_limit))
   no_entry : (cause : Stop) (text : List ℕ) (journal : Option (List ℕ)) → IsGiven source text journal → length text ≤ text_limit
-      → EntryStops text cause → ReplayCauses source (Shared cause)
+      → TextStops text cause → ReplayCauses source (Shared cause)
   no_journal : (cause : ToolStop) (text : List ℕ) (journal : Option (List ℕ)) (entry : Func) → IsGiven source text journal
       → length text ≤ text_limit → HasEntry text entry → LineStops journal cause → ReplayCauses source cause
   no_end : (cause : ToolStop) (text : List ℕ) (journal : Option (List ℕ)) (entry : Func) (entries : List Entry) → IsGiven source text journal

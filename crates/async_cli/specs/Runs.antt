@@ -14,7 +14,7 @@ use Rattle.async_cli.specs.Texts.{run_text}
 use Rattle.async_cli.specs.Stops.{stop_text}
 use Rattle.async_cli.specs.Held.{IsUnfinished, IsHeldUp}
 use Rattle.async_cli.specs.Driven.{entry_limit}
-use Rattle.async_cli.specs.Answers.{Given, Gave, text_limit, IsInput, InputStops, HasEntry, EntryStops, Wrote, HadNoMemory}
+use Rattle.async_cli.specs.Answers.{Given, Gave, text_limit, IsInput, InputStops, HasEntry, TextStops, Wrote, HadNoMemory}
 
 -- the words ask for this command, with these flags
 abbrev pub Asks : List ℕ → Given → Flags → Type 0
@@ -55,7 +55,7 @@ pub data Causes (given : Given) (journal : List Entry) : Stop → Type 0 where
   input : (stop : Stop) (flags : Flags) → journal ≡ [] → Asks (codes "run") given flags → InputStops text_limit given.source stop
       → Causes given journal stop
   entry : (stop : Stop) (flags : Flags) (text : List ℕ) → journal ≡ [] → Asks (codes "run") given flags → IsInput text_limit given.source text
-      → EntryStops text stop → Causes given journal stop
+      → TextStops text stop → Causes given journal stop
   no_memory : journal ≡ [] → Causes given journal OutOfMemory
   run : (stop : Stop) (flags : Flags) (f : Func) → Enters given flags f → RunStops f journal stop → Causes given journal stop
 

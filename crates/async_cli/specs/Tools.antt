@@ -8,15 +8,19 @@ use Rattle.async_cli.specs.Words.{flags_of}
 use Rattle.async_cli.specs.Stops.{tool_text, tool_status}
 use Rattle.async_cli.specs.Answers.{Given, Gave, Wrote, HadNoMemory}
 use Rattle.async_cli.specs.Runs.{Asks}
+use Rattle.async_cli.specs.Checks.{CheckCauses, CheckEnds}
 use Rattle.async_cli.specs.Replays.{ReplayCauses, ReplayEnds}
 
 -- the words ask for no command
 abbrev pub AsksNothing : Given → Type 0
-AsksNothing given = flags_of (codes "replay") given.words ≡ None
+AsksNothing given = (flags_of (codes "check") given.words ≡ None) × (flags_of (codes "replay") given.words ≡ None)
 
 -- The status and the text that are owed for what was given.
 pub data ToolOwes (given : Given) : ℕ → List ℕ → Type 0 where
   words : AsksNothing given → ToolOwes given (tool_status (Shared stop.Words)) (tool_text (Shared stop.Words))
+  checked : (flags : Flags) (text : List ℕ) → Asks (codes "check") given flags → CheckEnds given.source text → ToolOwes given 0 text
+  not_checked : (flags : Flags) (cause : ToolStop) → Asks (codes "check") given flags → CheckCauses given.source cause
+      → ToolOwes given (tool_status cause) (tool_text cause)
   replayed : (flags : Flags) (text : List ℕ) → Asks (codes "replay") given flags → ReplayEnds given.source flags text → ToolOwes given 0 text
   not_replayed : (flags : Flags) (cause : ToolStop) → Asks (codes "replay") given flags → ReplayCauses given.source cause
       → ToolOwes given (tool_status cause) (tool_text cause)

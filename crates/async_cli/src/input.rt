@@ -5,18 +5,28 @@ ghost use Rattle.std.specs.Option.{option_copied};
 ghost use Rattle.aio_base.specs.Whole.{Told};
 ghost use Rattle.ir_forms.specs.declared.ops.Func.{Func as TheFunc};
 ghost use Rattle.step_core.specs.Code.{straight_of};
-ghost use Rattle.async_cli.specs.Answers.{IsInput, InputStops, HasEntry, EntryStops, entry_of};
+ghost use Rattle.async_cli.specs.Answers.{text_limits, IsInput, InputStops, IsAccepted, ModuleStops, IsEntry, EntryStops, HasEntry, TextStops};
 ghost use Rattle.async_cli.specs.Inputs.{begins_line, ends_line, is_heading, IsSplit};
 
-use crate::stops::Stop;
+use crate::not_yet::first_not_yet;
+use crate::stops::{ModuleFault, Stop};
 use aio_base::{ReadAllError, Source, read_all};
-use ir_forms::{Func, Module};
-use mlir_text::{TextFault, parse};
+use ir_forms::{Level, operation_count, renumber};
+use ir_verify::{EntryFault, Verified, VerifyFault, entry_of, verify};
+use mlir_text::{TextFault, TextLimits, parse};
 use std::alloc::Global;
 use step_core::Straight;
 
 /// The most bytes of a module's text.
 pub const TEXT_LIMIT: u32 = 1_048_576;
+
+/// How much a module's text may hold.
+pub const TEXT_LIMITS: TextLimits = TextLimits {
+    operations: 65_536,
+    functions: 1_024,
+    depth: 64,
+    values: 1_048_576,
+};
 
 /// The most bytes of a module's text and a journal.
 pub const INPUT_LIMIT: u32 = 536_870_912;
@@ -39,33 +49,61 @@ pub fn read_input<S: Source>(alloc: Global, source: &mut S, limit: u32) -> Resul
     }
 }
 
-fn find_entry(program: &Module) -> Option<&Func>
-    ensures { option_copied result ≡ entry_of program.now }
+/// The text's module with its operations numbered by their places, which breaks no rule.
+pub fn read_module(alloc: Global, text: &[u8]) -> Result<Verified, Stop>
+    requires { length text.now < 2 ^ 32 }
+    ensures { MatchResult result (λ verified. IsAccepted text.now verified.program) (λ stop. ModuleStops text.now stop) }
 {
-    for func in program.funcs.as_slice() {
-        if func.name.as_slice() == b"main".as_slice() {
-            return Some(func);
-        }
+    let program = match parse(alloc, text, Level::Source, &TEXT_LIMITS) {
+        Ok(program) => program,
+        Err(TextFault::OutOfMemory) => return Err(Stop::OutOfMemory),
+        Err(fault) => return Err(Stop::Module(ModuleFault::Text(fault))),
+    };
+    if operation_count(&program).is_none() {
+        return Err(Stop::OutOfMemory);
     }
-    None
+    match verify(alloc, renumber(program)) {
+        Ok(verified) => Ok(verified),
+        Err(VerifyFault::Fault { op, kind }) => {
+            Err(Stop::Module(ModuleFault::Verify { op, kind }))
+        }
+        Err(VerifyFault::OutOfMemory) => Err(Stop::OutOfMemory),
+    }
+}
+
+/// The code of the entry of a module.
+fn entry_code(alloc: Global, verified: &Verified) -> Result<Straight, Stop>
+    ensures { MatchResult result (λ code. (entry : TheFunc) × (IsEntry verified.now.program entry × (code ≡ straight_of entry))) (λ stop. EntryStops verified.now.program stop) }
+{
+    let program = verified.module();
+    if u32::try_from(program.funcs.len()).is_err() {
+        return Err(Stop::OutOfMemory);
+    }
+    let number = match entry_of(verified, b"main") {
+        Ok(number) => number,
+        Err(EntryFault::NoEntry) => return Err(Stop::NoEntry),
+        Err(EntryFault::EntryType { op }) => return Err(Stop::EntryType { op }),
+    };
+    if let Some(op) = first_not_yet(program) {
+        return Err(Stop::NotYet { op });
+    }
+    match program.funcs.get(number.0 as usize) {
+        Some(entry) => match Straight::of(alloc, entry) {
+            Ok(code) => Ok(code),
+            Err(_) => Err(Stop::OutOfMemory),
+        },
+        None => unreachable!(),
+    }
 }
 
 /// The code of the entry of the module whose text this is.
 pub fn read_code(alloc: Global, text: &[u8]) -> Result<Straight, Stop>
     requires { length text.now < 2 ^ 32 }
-    ensures { MatchResult result (λ code. (entry : TheFunc) × (HasEntry text.now entry × (code ≡ straight_of entry))) (λ stop. EntryStops text.now stop) }
+    ensures { MatchResult result (λ code. (entry : TheFunc) × (HasEntry text.now entry × (code ≡ straight_of entry))) (λ stop. TextStops text.now stop) }
 {
-    let program = match parse(alloc, text) {
-        Ok(program) => program,
-        Err(TextFault::NotYet) => return Err(Stop::NotYet),
-        Err(TextFault::OutOfMemory) => return Err(Stop::OutOfMemory),
-    };
-    match find_entry(&program) {
-        Some(entry) => match Straight::of(alloc, entry) {
-            Ok(code) => Ok(code),
-            Err(_) => Err(Stop::OutOfMemory),
-        },
-        None => Err(Stop::NoEntry),
+    match read_module(alloc, text) {
+        Ok(verified) => entry_code(alloc, &verified),
+        Err(stop) => Err(stop),
     }
 }
 

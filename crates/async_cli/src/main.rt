@@ -1,8 +1,10 @@
 //! Dofraneg's program: `run` runs a module that it reads from standard input.
 #![tactic(auto)]
 
+mod checks;
 mod driver;
 mod input;
+mod not_yet;
 mod outcome;
 mod replays;
 mod run;

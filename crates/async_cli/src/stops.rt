@@ -1,11 +1,90 @@
 //! Why a run ended without an end, with the status and the text of each answer.
 
 ghost use Rattle.std.specs.Prelude.{◌≡◌, ◌++◌, OnOk, codes, decimal};
-ghost use Rattle.async_cli.specs.Stops.{status_of, stop_text};
+ghost use Rattle.async_cli.specs.Stops.{status_of, stop_text, refusal, lex_name, lex_place, limit_name, fault_name, fault_place, module_text};
 ghost use Rattle.async_cli.specs.Texts.{numbered};
 
 use crate::texts::push_numbered;
+use ir_verify::VerifyKind;
+use mlir_lex::LexFault;
+use mlir_text::{Limited, TextFault};
 use std::alloc::AllocError;
+
+/// Why a text gives no module to run.
+#[derive(Clone, Copy, Debug, PartialEq, Eq)]
+pub enum ModuleFault {
+    /// It is no text of the grammar within the limits.
+    Text(TextFault),
+    /// The least operation that breaks a rule, and the first rule that it breaks.
+    Verify { op: u32, kind: VerifyKind },
+}
+
+/// Adds the line of a refusal: a name, and where the fault stands.
+fn push_refusal(
+    text: &mut Vec<u8>,
+    name: &str,
+    where_it_is: &str,
+    number: u32,
+) -> Result<(), AllocError>
+    ensures { OnOk result (text.new.items ≡ text.old.items ++ refusal name.now where_it_is.now number) }
+{
+    text.extend_from_slice(b"refused: ")?;
+    text.extend_from_slice(name.as_bytes())?;
+    push_numbered(text, where_it_is, u64::from(number), "\n")
+}
+
+fn lex_name(fault: LexFault) -> (&'static str, u32)
+    ensures { (result.0.now ≡ lex_name fault) × (result.1 ≡ lex_place fault) }
+{
+    match fault {
+        LexFault::BadUtf8 { at } => ("BadUtf8", at),
+        LexFault::OpenString { at } => ("OpenString", at),
+        LexFault::BadByte { at } => ("BadByte", at),
+        LexFault::OutOfMemory => ("OutOfMemory", 0),
+    }
+}
+
+fn limit_name(limited: Limited) -> &'static str
+    ensures { result.now ≡ limit_name limited }
+{
+    match limited {
+        Limited::Operations => "Limit Operations",
+        Limited::Functions => "Limit Functions",
+        Limited::Depth => "Limit Depth",
+        Limited::Values => "Limit Values",
+    }
+}
+
+/// The name of a text's fault, and its byte.
+fn fault_name(fault: TextFault) -> (&'static str, u32)
+    ensures { (result.0.now ≡ fault_name fault) × (result.1 ≡ fault_place fault) }
+{
+    match fault {
+        TextFault::Lex(fault) => lex_name(fault),
+        TextFault::Syntax { at } => ("Syntax", at),
+        TextFault::UnknownOp { at } => ("UnknownOp", at),
+        TextFault::UnknownType { at } => ("UnknownType", at),
+        TextFault::WideNumber { at } => ("WideNumber", at),
+        TextFault::Limit { which, at } => (limit_name(which), at),
+        TextFault::OutOfMemory => ("OutOfMemory", 0),
+    }
+}
+
+impl ModuleFault {
+    fn push_text(self, text: &mut Vec<u8>) -> Result<(), AllocError>
+        ensures { OnOk result (text.new.items ≡ text.old.items ++ module_text self) }
+    {
+        match self {
+            ModuleFault::Text(fault) => {
+                let (name, at) = fault_name(fault);
+                push_refusal(text, name, " at byte ", at)
+            }
+            ModuleFault::Verify { op, kind } => {
+                push_refusal(text, kind.name(), " at operation ", op)
+            }
+        }
+    }
+}
 
 /// Why `run` gave no end of a run, or why that end wasn't written whole.
 #[derive(Clone, Copy, Debug, PartialEq, Eq)]
@@ -16,10 +95,14 @@ pub enum Stop {
     Read,
     /// The text has more bytes than the limit.
     TooLong { limit: u32 },
-    /// The text is outside what is built so far.
-    NotYet,
+    /// The text is that of no module, or the module breaks a rule.
+    Module(ModuleFault),
     /// No function is called `main`.
     NoEntry,
+    /// The function `main` with this number has an async parameter, an async result or a memref result.
+    EntryType { op: u32 },
+    /// The first operation that a run can't take yet.
+    NotYet { op: u32 },
     /// No task is ready, and so many are left.
     Short { parked: u32 },
     /// The journal has as many entries as allowed, and the run isn't finished.
@@ -38,7 +121,13 @@ impl Stop {
         match stop {
             None => 0,
             Some(Stop::Words) => 2,
-            Some(Stop::TooLong { .. } | Stop::NotYet | Stop::NoEntry) => 3,
+            Some(
+                Stop::TooLong { .. }
+                | Stop::Module(_)
+                | Stop::NoEntry
+                | Stop::EntryType { .. }
+                | Stop::NotYet { .. },
+            ) => 3,
             Some(Stop::Short { .. }) => 4,
             Some(Stop::Spent { .. }) => 6,
             Some(Stop::Read) => 7,
@@ -57,8 +146,20 @@ impl Stop {
             Stop::TooLong { limit } => {
                 push_numbered(text, "refused: longer than ", u64::from(limit), " bytes\n")
             }
-            Stop::NotYet => text.extend_from_slice(b"refused: not yet\n"),
+            Stop::Module(fault) => fault.push_text(text),
             Stop::NoEntry => text.extend_from_slice(b"refused: no entry main\n"),
+            Stop::EntryType { op } => push_numbered(
+                text,
+                "refused: entry type at operation ",
+                u64::from(op),
+                "\n",
+            ),
+            Stop::NotYet { op } => push_numbered(
+                text,
+                "refused: NotYet at operation ",
+                u64::from(op),
+                "\n",
+            ),
             Stop::Short { parked } => {
                 push_numbered(text, "stopped: parked tasks ", u64::from(parked), "\n")
             }

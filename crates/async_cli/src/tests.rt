@@ -96,7 +96,7 @@ fn answers<R: Threads + Wait + Sync>(
 
 #[test]
 fn tells_each_answer(rt: HostRuntime) -> Result<(), Fail> {
-    let rows: [(&[&str], &[u8], u8, &[u8]); 13] = [
+    let rows: [(&[&str], &[u8], u8, &[u8]); 17] = [
         (&["run"], ANSWER, 0, b"result 0: 42\ntasks 0, objects 0\n"),
         (&["run"], DOUBLED, 0, b"result 0: 84\ntasks 0, objects 0\n"),
         (
@@ -134,15 +134,39 @@ fn tells_each_answer(rt: HostRuntime) -> Result<(), Fail> {
             &["run"],
             b"func.func @main() -> i64 { }",
             3,
-            b"refused: not yet\n",
+            b"refused: Terminator at operation 1\n",
         ),
         (
             &["run"],
             b"func.func @main() { return",
             3,
-            b"refused: not yet\n",
+            b"refused: Syntax at byte 26\n",
         ),
-        (&["run"], b"\xff", 3, b"refused: not yet\n"),
+        (&["run"], b"\xff", 3, b"refused: BadUtf8 at byte 0\n"),
+        (
+            &["run"],
+            b"func.func @main(%t: !async.token) { return }",
+            3,
+            b"refused: entry type at operation 1\n",
+        ),
+        (
+            &["run"],
+            b"func.func @main(%a: i64) { return }",
+            3,
+            b"refused: NotYet at operation 1\n",
+        ),
+        (
+            &["run"],
+            b"func.func @main() { %a = arith.constant 1 : i8 return }",
+            3,
+            b"refused: NotYet at operation 2\n",
+        ),
+        (
+            &["run"],
+            b"func.func @main() { %a = arith.constant 1 : i64 %t = async.execute { %b = arith.addi %a, %a : i64 async.yield } return }",
+            3,
+            b"refused: NotYet at operation 4\n",
+        ),
         (
             &["run", "--steps", "--steps"],
             ANSWER,
@@ -380,7 +404,7 @@ fn names_why_a_journal_is_no_finished_run(rt: HostRuntime) -> Result<(), Fail> {
         (LAUNCH, b"0 0\n\n1 0\n", 3, b"refused: journal line 2\n"),
         (LAUNCH, b"0 00\n", 3, b"refused: journal line 1\n"),
         (b"", b"0 0\n", 3, b"refused: no entry main\n"),
-        (b"nonsense", b"x\n", 3, b"refused: not yet\n"),
+        (b"nonsense", b"x\n", 3, b"refused: Syntax at byte 0\n"),
     ];
     for (text, journal, status, told) in rows {
         assert!(rt; replays(rt.alloc(), &["replay"], text, journal, status, told)?);
@@ -402,7 +426,7 @@ fn finds_the_heading(rt: HostRuntime) -> Result<(), Fail> {
         (
             b"func.func @main() { return }\n-- journal\r\n0 0\n",
             3,
-            b"refused: not yet\n",
+            b"refused: Syntax at byte 29\n",
         ),
         (
             b"func.func @main() { return }\n-- journal\n0 0\n-- journal\n",
@@ -537,5 +561,68 @@ fn names_a_failed_read_and_write_of_a_replay(rt: HostRuntime) -> Result<(), Fail
     let mut sink = MemSink::new(alloc, 5, 64, [2u64].to_vec(alloc)?)?;
     assert_eq!(rt; tool(alloc, words.as_slice(), &mut source, &mut sink), 8);
     assert_eq!(rt; sink.taken(), b"resul".as_slice());
+    Ok(())
+}
+
+#[test]
+fn checks_modules(rt: HostRuntime) -> Result<(), Fail> {
+    let rows: [(&[u8], u8, &[u8]); 8] = [
+        (ANSWER, 0, b"ok: 1 functions, 5 operations\n"),
+        (AWAIT, 0, b"ok: 1 functions, 5 operations\n"),
+        (b"", 0, b"ok: 0 functions, 0 operations\n"),
+        (
+            b"func.func @main(%m: memref<2x!async.token>) { return }",
+            3,
+            b"refused: AsyncInMemref at operation 1\n",
+        ),
+        (
+            b"func.func @f() -> f32 { return }",
+            3,
+            b"refused: UnknownType at byte 18\n",
+        ),
+        (
+            b"func.func @f() { %a = arith.constant 18446744073709551616 : i64 return }",
+            3,
+            b"refused: WideNumber at byte 37\n",
+        ),
+        (
+            b"func.func @f() { arith.nothing return }",
+            3,
+            b"refused: UnknownOp at byte 17\n",
+        ),
+        (
+            b"func.func @f() { %a = arith.constant 1 : i64 {aio.at = 7 : i64} return %b : i64 }",
+            3,
+            b"refused: Undefined at operation 3\n",
+        ),
+    ];
+    for (text, status, told) in rows {
+        assert!(rt; tool_answers(rt.alloc(), &["check"], text, status, told)?);
+    }
+    let told: &[u8] = b"ok: 1 functions, 5 operations\n";
+    assert!(rt; tool_answers(rt.alloc(), &["check", "--journal"], ANSWER, 0, told)?);
+    Ok(())
+}
+
+fn many_functions(alloc: Global, count: u32) -> Result<Vec<u8>, AllocError> {
+    let mut buffer = itoa::Buffer::new();
+    let mut text = Vec::new(alloc);
+    for number in 0..count {
+        text.extend_from_slice(b"func.func @f")?;
+        text.extend_from_slice(buffer.format(number).as_bytes())?;
+        text.extend_from_slice(b"() { return }\n")?;
+    }
+    Ok(text)
+}
+
+#[test]
+fn checks_up_to_the_limits(rt: HostRuntime) -> Result<(), Fail> {
+    let alloc = rt.alloc();
+    let text = many_functions(alloc, 1_024)?;
+    let told: &[u8] = b"ok: 1024 functions, 2048 operations\n";
+    assert!(rt; tool_answers(alloc, &["check"], text.as_slice(), 0, told)?);
+    let text = many_functions(alloc, 1_025)?;
+    let told: &[u8] = b"refused: Limit Functions at byte 29610\n";
+    assert!(rt; tool_answers(alloc, &["check"], text.as_slice(), 3, told)?);
     Ok(())
 }

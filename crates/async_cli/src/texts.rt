@@ -55,6 +55,21 @@ pub fn push_numbered(
     text.extend_from_slice(after.as_bytes())
 }
 
+/// Adds two numbers in decimal, with a text before each and one behind them.
+pub fn push_two_numbered(
+    text: &mut Vec<u8>,
+    before: &str,
+    first: u64,
+    between: &str,
+    second: u64,
+    after: &str,
+) -> Result<(), AllocError>
+    ensures { OnOk result (text.new.items ≡ text.old.items ++ numbered before.now first (numbered between.now second after.now)) }
+{
+    push_numbered(text, before, first, "")?;
+    push_numbered(text, between, second, after)
+}
+
 fn push_result(text: &mut Vec<u8>, index: u64, out: Out) -> Result<(), AllocError>
     ensures { OnOk result (text.new.items ≡ text.old.items ++ result_line index out) }
 {

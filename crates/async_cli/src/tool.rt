@@ -6,6 +6,7 @@ ghost use Rattle.async_cli.specs.Answers.{Given, Gave, Wrote, HadNoMemory};
 ghost use Rattle.async_cli.specs.Stops.{tool_status, tool_text};
 ghost use Rattle.async_cli.specs.Tools.{ToolAnswers, ToolOwes, broken_status};
 
+use crate::checks::tell_check;
 use crate::replays::tell_replay;
 use crate::stops::Stop;
 use crate::tool_stops::ToolStop;
@@ -19,7 +20,7 @@ const BROKEN: u8 = 8;
 /// The exit status where there was no memory.
 const NO_MEMORY: u8 = 9;
 
-/// Serves the commands other than `run`, and answers the exit status. So far that is `replay`.
+/// Serves the commands other than `run`, and answers the exit status. So far these are `check` and `replay`.
 pub fn tool<S: Source, K: Sink>(alloc: Global, words: &[String], source: &mut S, sink: &mut K) -> u8
     ensures { let given : Given = record {
       words = map string_bytes words.now;
@@ -57,9 +58,12 @@ fn tell<S: Source>(alloc: Global, words: &[String], source: &mut S) -> Result<Ve
     } in
         MatchResult result (λ text. ToolOwes given 0 text.items) (λ stop. ToolOwes given (tool_status stop) (tool_text stop)) }
 {
-    match read_flags("replay", words) {
-        Some(flags) => tell_replay(alloc, flags, source),
-        None => Err(ToolStop::Shared(Stop::Words)),
+    match read_flags("check", words) {
+        Some(_) => tell_check(alloc, source),
+        None => match read_flags("replay", words) {
+            Some(flags) => tell_replay(alloc, flags, source),
+            None => Err(ToolStop::Shared(Stop::Words)),
+        },
     }
 }
 

@@ -1,5 +1,5 @@
-use Rattle.std.proofs.Common.{sym}
+use Rattle.async_cli.proofs.Telling.{entered}
 use Rattle.async_cli.proofs.input.read_code.Goals as goal
 
-pub returns-in-Ok-of : goal.returns-in-Ok-of
-returns-in-Ok-of c = (c.in-Some.entry.now, ((c.in-Ok.program, (c.in-Ok.ensures, sym c.in-Some.ensures)), c.in-Ok-of.ensures))
+pub returns-in-Ok : goal.returns-in-Ok
+returns-in-Ok c = entered c.args.text.now c.in-Ok.verified.program c.entry_code.result c.in-Ok.ensures c.entry_code.ensures

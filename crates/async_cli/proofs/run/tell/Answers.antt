@@ -1,5 +1,5 @@
 use Rattle.std.proofs.Common.{sym, subst}
-use Rattle.async_cli.specs.Answers.{EntryStops}
+use Rattle.async_cli.specs.Answers.{TextStops}
 use Rattle.async_cli.specs.Runs.{Causes}
 use Rattle.async_cli.proofs.Telling.{ran}
 use Rattle.async_cli.proofs.run.tell.Goals as goal
@@ -18,4 +18,4 @@ returns-in-Ok-read_code g c =
 pub returns : goal.returns
 returns g c =
     Causes.entry c.in-Err-read_code.stop c.in-Some.flags c.in-Ok.text.items c.requires (sym c.in-Some.ensures) c.in-Ok.ensures
-    (subst (λ t. EntryStops t c.in-Err-read_code.stop) c.deref.ensures.value c.in-Err-read_code.ensures)
+    (subst (λ t. TextStops t c.in-Err-read_code.stop) c.deref.ensures.value c.in-Err-read_code.ensures)
