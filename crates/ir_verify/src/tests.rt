@@ -1,5 +1,8 @@
+mod calls;
 mod forms;
+mod large;
 mod make;
+mod order;
 mod regions;
 
 use super::*;

@@ -175,8 +175,18 @@ pub fn two(alloc: Global, first: Op, second: Op) -> Result<Items<Op>, AllocError
 
 /// A region whose parameters are `A` and the values after it.
 pub fn region(alloc: Global, codes: &str, ops: Items<Op>) -> Result<Region, AllocError> {
+    region_from(alloc, 40, codes, ops)
+}
+
+/// A region whose parameters are numbered from `first` on.
+pub fn region_from(
+    alloc: Global,
+    first: u32,
+    codes: &str,
+    ops: Items<Op>,
+) -> Result<Region, AllocError> {
     Ok(Region {
-        params: params(alloc, 40, codes)?,
+        params: params(alloc, first, codes)?,
         ops,
     })
 }
