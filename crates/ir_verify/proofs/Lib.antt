@@ -9,3 +9,5 @@ pub mod VerdictLemmas
 pub mod LawLemmas
 pub mod KindLemmas
 pub mod LevelLemmas
+pub mod GraphLemmas
+pub mod BreakLemmas

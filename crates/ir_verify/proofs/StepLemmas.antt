@@ -1,5 +1,5 @@
 -- The faults of a list of places, one operation or region after another.
-use Rattle.std.proofs.Common.{◌≡◌, ℕ, zero, suc, ◌+◌, ◌<◌, ◌≤◌, ◌==◌, Bool, List, [], ◌∷◌, ◌++◌, length, drop, take, get_or, Option, refl, sym, ap, ◌∙◌, arith, append_assoc, append-nil, add-one}
+use Rattle.std.proofs.Common.{◌≡◌, ℕ, zero, suc, ◌+◌, ◌<◌, ◌≤◌, ◌==◌, Bool, List, [], ◌∷◌, ◌++◌, length, drop, take, get_or, Option, refl, sym, ap, ◌∙◌, arith, add-one}
 use Rattle.std.proofs.Math.Seq.{drop-cons}
 use Rattle.std.proofs.lemmas.Bool.Decides.{nat_tests}
 use Rattle.ir_forms.specs.declared.ops.Op.{Op}
@@ -9,8 +9,6 @@ use Rattle.ir_forms.specs.Ops.{results_of, regions_of, ops_of}
 use Rattle.ir_verify.specs.declared.fault.Broken.{Broken}
 use Rattle.ir_verify.specs.Places.{Around, Seen, Spot, places_at, places_in, places_along, places_held, place_of, within, params_of, defined, types_of, is_none_left}
 use Rattle.ir_verify.specs.Breaks.{noted_all, noted_spot}
-use Rattle.ir_verify.specs.Calls.{call_of, call_at, calls_among}
-use Rattle.ir_verify.specs.declared.calls.Call.{Call}
 use Rattle.ir_verify.proofs.PlaceLemmas.{places_at-out, places_in-out}
 
 pub noted_append : (xs ys : List Spot) (best : Option Broken) → noted_all (xs ++ ys) best ≡ noted_all ys (noted_all xs best)
@@ -75,51 +73,3 @@ module _ (funcs : List Func) where
 pub take_front : {X : Type 0} → (xs ys : List X) → take (length xs) (xs ++ ys) ≡ xs
 take_front [] ys = refl
 take_front (x ∷ xs) ys = ap (λ rest. x ∷ rest) (take_front xs ys)
-
--- ---- the calls of a list of places
-
-module _ (funcs : List Func) where
-  pub calls_append : (xs ys : List Spot) → calls_among funcs (xs ++ ys) ≡ calls_among funcs xs ++ calls_among funcs ys
-  calls_append [] ys = refl
-  calls_append (x ∷ xs) ys = ap (λ rest. call_at funcs x ++ rest) (calls_append xs ys) ∙ sym (append_assoc (call_at funcs x) (calls_among funcs xs) (calls_among funcs ys))
-
-  pub op_begins_calls : (op : Op) (around : Around) (seen : Seen) (last : Bool) (old now : List Call) → now ≡ old ++ call_of funcs op around.nest →
-      now ++ calls_among funcs (places_held funcs (regions_of op) around op 0 seen) ≡ old ++ calls_among funcs (places_at funcs op around seen last)
-  op_begins_calls op around seen last old now is =
-      rw is (append_assoc old (call_of funcs op around.nest) (calls_among funcs (places_held funcs (regions_of op) around op 0 seen)))
-      ∙ sym (ap (λ (places : List Spot). old ++ calls_among funcs places) (places_at-out funcs op around seen last))
-
-  pub held_next_calls : (regions : List Region) (region : Region) (i : ℕ) (around : Around) (op : Op) (seen : Seen) (calls after whole : List Call) →
-      i < length regions → region ≡ get_or regions i region → after ≡ calls ++ calls_among funcs (places_in funcs region (within around op i) seen) →
-      calls ++ calls_among funcs (places_held funcs (drop i regions) around op i seen) ≡ whole → after ++ calls_among funcs (places_held funcs (drop (i + 1) regions) around op (i + 1) seen) ≡ whole
-  held_next_calls regions region i around op seen calls after whole inside at is so_far =
-      let front : drop i regions ≡ region ∷ drop (suc i) regions = drop-cons regions i region inside ∙ ap (λ x. x ∷ drop (suc i) regions) (sym at) in
-      let here : List Call = calls_among funcs (places_in funcs region (within around op i) seen) in
-      let later : List Call = calls_among funcs (places_held funcs (drop (suc i) regions) around op (i + 1) seen) in
-      let split : calls_among funcs (places_held funcs (drop i regions) around op i seen)
-      ≡ calls_among funcs (places_in funcs region (within around op i) seen) ++ calls_among funcs (places_held funcs (drop (suc i) regions) around op (i + 1) seen) =
-      ap (λ (rest : List Region). calls_among funcs (places_held funcs rest around op i seen)) front ∙ calls_append (places_in funcs region (within around op i) seen) (places_held funcs (drop (suc i) regions) around op (i + 1) seen) in
-      rw (is, add-one) (append_assoc calls here (calls_among funcs (places_held funcs (drop (suc i) regions) around op (suc i) seen))) ∙ ap (λ rest. calls ++ rest) (rw add-one at (sym split)) ∙ so_far
-
-  pub held_done_calls : (regions : List Region) (i : ℕ) (around : Around) (op : Op) (seen : Seen) (calls whole : List Call) → length regions ≤ i →
-      calls ++ calls_among funcs (places_held funcs (drop i regions) around op i seen) ≡ whole → calls ≡ whole
-  held_done_calls regions i around op seen calls whole done so_far =
-      sym (append-nil calls) ∙ ap (λ (rest : List Region). calls ++ calls_among funcs (places_held funcs rest around op i seen)) (sym (past regions i done)) ∙ so_far
-
-  pub region_begins_calls : (region : Region) (around : Around) (seen now : Seen) (calls : List Call) → now ≡ seen ++ params_of region →
-      calls ++ calls_among funcs (places_along funcs (ops_of region) around now) ≡ calls ++ calls_among funcs (places_in funcs region around seen)
-  region_begins_calls region around seen now calls is = rw is (sym (ap (λ (places : List Spot). calls ++ calls_among funcs places) (places_in-out funcs region around seen)))
-
-  pub along_next_calls : (ops : List Op) (op : Op) (i : ℕ) (around : Around) (seen now : Seen) (last : Bool) (calls after whole : List Call) →
-      i < length ops → op ≡ get_or ops i op → last ≡ (i + 1 == length ops) → now ≡ seen ++ defined (results_of op) (types_of op) →
-      after ≡ calls ++ calls_among funcs (places_at funcs op around seen last) →
-      calls ++ calls_among funcs (places_along funcs (drop i ops) around seen) ≡ whole → after ++ calls_among funcs (places_along funcs (drop (i + 1) ops) around now) ≡ whole
-  along_next_calls ops op i around seen now last calls after whole inside at ending visible is so_far =
-      let front : drop i ops ≡ op ∷ drop (suc i) ops = drop-cons ops i op inside ∙ ap (λ x. x ∷ drop (suc i) ops) (sym at) in
-      let ends : last ≡ is_none_left (drop (suc i) ops) = ending ∙ rw add-one (last_of funcs ops i inside) in
-      let split : calls_among funcs (places_along funcs (drop i ops) around seen)
-      ≡ calls_among funcs (places_at funcs op around seen (is_none_left (drop (suc i) ops))) ++ calls_among funcs (places_along funcs (drop (suc i) ops) around (seen ++ defined (results_of op) (types_of op))) =
-      ap (λ (rest : List Op). calls_among funcs (places_along funcs rest around seen)) front
-      ∙ calls_append (places_at funcs op around seen (is_none_left (drop (suc i) ops))) (places_along funcs (drop (suc i) ops) around (seen ++ defined (results_of op) (types_of op))) in
-      rw (is, visible, ends, add-one) (append_assoc calls (calls_among funcs (places_at funcs op around seen (is_none_left (drop (suc i) ops)))) (calls_among funcs (places_along funcs (drop (suc i) ops) around (seen ++ defined (results_of op) (types_of op)))))
-      ∙ ap (λ rest. calls ++ rest) (sym split) ∙ so_far

@@ -2,16 +2,18 @@
 use Rattle.std.specs.Prelude.{◌≡◌, ◌<◌, ℕ, ◌||◌, Bool, true, false, List, [], ◌∷◌, ◌++◌, length, map, Option, Some, None, slice_get, slice_set, if◌then◌else◌}
 use Rattle.ir_forms.specs.declared.ops.Attr.{Attr}
 use Rattle.ir_forms.specs.declared.ops.Attr.TheVariants.{Callee}
-use Rattle.ir_forms.specs.declared.ops.Op.{Op}
+use Rattle.op_table.specs.declared.kind.OpKind.{OpKind}
+use Rattle.ir_forms.specs.declared.ops.Op.{Op, Op-F}
+use Rattle.ir_forms.specs.declared.ops.Op.TheFolds.{fold-Op, fold-Region}
+use Rattle.ir_forms.specs.declared.ops.Region.{Region, Region-F}
 use Rattle.ir_forms.specs.declared.ops.Func.{Func}
-use Rattle.ir_forms.specs.Ops.{attr_of}
 use Rattle.ir_verify.specs.declared.calls.Call.{Call}
 use Rattle.ir_verify.specs.declared.place.Nest.{Nest}
 use Rattle.ir_verify.specs.declared.place.Nest.TheVariants.{InFunction}
 use Rattle.ir_verify.specs.Breaks.{is_call}
-use Rattle.ir_verify.specs.Forms.{form}
+use Rattle.ir_verify.specs.Forms.{form_of}
 use Rattle.ir_verify.specs.Names.{first_named}
-use Rattle.ir_verify.specs.Places.{Spot, places_in, in_body}
+use Rattle.ir_verify.specs.Places.{nest_in}
 
 -- ---- the calls of a function
 
@@ -29,20 +31,43 @@ abbrev pub call_to : Option ℕ → Nest → List Call
 call_to None nest = []
 call_to (Some callee) nest = record { callee = callee; in_task = is_in_task nest } ∷ []
 
--- the call that an operation is, if it names a function
-abbrev pub call_of : List Func → Op → Nest → List Call
-call_of funcs op nest = if is_call (form op) then call_to (callee_place funcs (attr_of op)) nest else []
+-- the call that an operation of this kind, which carries this, is, if it names a function
+abbrev pub call_of : List Func → OpKind → Attr → Nest → List Call
+call_of funcs kind attr nest = if is_call (form_of kind) then call_to (callee_place funcs attr) nest else []
 
-abbrev pub call_at : List Func → Spot → List Call
-call_at funcs s = call_of funcs s.place.op s.place.around.nest
+abbrev pub CallsOf : Type 0
+CallsOf = Nest → List Call
 
-abbrev pub calls_among : List Func → List Spot → List Call
-calls_among funcs [] = []
-calls_among funcs (s ∷ spots) = call_at funcs s ++ calls_among funcs spots
+abbrev pub all_calls : List CallsOf → Nest → List Call
+all_calls [] nest = []
+all_calls (f ∷ fs) nest = f nest ++ all_calls fs nest
 
--- all calls of a function, in nested regions too
+module _ (funcs : List Func) where
+  abbrev pub op_calls : Op-F CallsOf CallsOf → CallsOf
+  op_calls layer nest = call_of funcs layer.kind layer.attr nest ++ all_calls layer.regions (nest_in layer.kind nest)
+
+  abbrev pub region_calls : Region-F CallsOf CallsOf → CallsOf
+  region_calls layer nest = all_calls layer.ops nest
+
+  -- the calls of an operation that stands here, those in its regions too
+  unfoldable pub calls_at : Op → Nest → List Call
+  calls_at op nest = fold-Op CallsOf CallsOf op_calls region_calls op nest
+
+  -- the calls in a region
+  unfoldable pub calls_in : Region → Nest → List Call
+  calls_in region nest = fold-Region CallsOf CallsOf op_calls region_calls region nest
+
+  abbrev pub calls_along : List Op → Nest → List Call
+  calls_along [] nest = []
+  calls_along (op ∷ ops) nest = calls_at op nest ++ calls_along ops nest
+
+  abbrev pub calls_held : List Region → Nest → List Call
+  calls_held [] nest = []
+  calls_held (region ∷ regions) nest = calls_in region nest ++ calls_held regions nest
+
+-- all calls of a function
 abbrev pub calls_of : List Func → Func → List Call
-calls_of funcs f = calls_among funcs (places_in funcs f.body (in_body f false) f.params)
+calls_of funcs f = calls_in funcs f.body InFunction
 
 -- the calls of each function
 abbrev pub graph_of : List Func → List (List Call)

@@ -1,5 +1,5 @@
 //! Which rules an operation breaks in its place.
-ghost use Rattle.std.specs.Prelude.{◌≡◌, ◌-◌, ◌<◌, ◌^◌, length};
+ghost use Rattle.std.specs.Prelude.{◌≡◌, ◌-◌, ◌<◌, ◌^◌, ◌||◌, length};
 ghost use Rattle.ir_forms.specs.Ops.{operands_of, written_of, regions_of, ops_of};
 ghost use Rattle.ir_verify.specs.Breaks.{some_at, operand_breaks, written_breaks, result_breaks, param_breaks, last_form, lacks_end, may_be_empty, region_breaks, is_other, is_call, is_await, would_block, miscounts, has_results, tries_results, own_breaks, breaks, noted_kind, noted_spot};
 ghost use Rattle.std.specs.Option.{option_copied};
@@ -246,16 +246,34 @@ fn own_breaks(kind: VerifyKind, site: &Site) -> bool
     }
 }
 
+fn breaks_at_itself_or_region(kind: VerifyKind, site: &Site) -> bool
+    ensures { result ≡ (own_breaks kind (place_at site.now) || some_at (region_breaks kind site.now.op.now) (regions_of site.now.op.now)) }
+{
+    own_breaks(kind, site) || some_region(kind, site.op)
+}
+
+fn breaks_at_type(kind: VerifyKind, site: &Site) -> bool
+    ensures { result ≡ (some_at (written_breaks kind (place_at site.now)) (written_of site.now.op.now) || (some_at (result_breaks kind (place_at site.now)) (types_of site.now.op.now) || some_at (region_breaks kind site.now.op.now) (regions_of site.now.op.now))) }
+{
+    some_written(kind, site) || some_result(kind, site) || some_region(kind, site.op)
+}
+
 /// Whether the operation breaks the rule of a kind: by itself, at an operand, at a written type, at
-/// a result, or at one of its regions.
+/// a result, or at one of its regions. Of these a kind asks only what can break its rule.
 pub(crate) fn breaks(kind: VerifyKind, scope: &Scope, site: &Site) -> bool
     ensures { result ≡ breaks kind (record { seen = scope.now; place = place_at site.now }) }
 {
-    own_breaks(kind, site)
-        || some_operand(kind, scope, site)
-        || some_written(kind, site)
-        || some_result(kind, site)
-        || some_region(kind, site.op)
+    match kind {
+        VerifyKind::Undefined => some_operand(kind, scope, site),
+        VerifyKind::TypeMismatch => {
+            own_breaks(kind, site) || some_operand(kind, scope, site) || breaks_at_type(kind, site)
+        }
+        VerifyKind::Terminator => breaks_at_itself_or_region(kind, site),
+        VerifyKind::UnknownFunc => own_breaks(kind, site),
+        VerifyKind::Arity => breaks_at_itself_or_region(kind, site),
+        VerifyKind::AsyncInMemref => breaks_at_type(kind, site),
+        VerifyKind::BlockingAwait => own_breaks(kind, site),
+    }
 }
 
 /// The earliest fault so far, with all those of an operation counted.

@@ -7,6 +7,7 @@ mod calls;
 mod entry;
 mod fault;
 mod form;
+mod graph;
 pub mod laws;
 mod level;
 mod names;

@@ -28,7 +28,7 @@ pub(crate) struct Site<'a> {
 }
 
 /// What is nearest round the regions of an operation of this kind.
-fn nest_in(kind: OpKind, nest: Nest) -> Nest
+pub(crate) fn nest_in(kind: OpKind, nest: Nest) -> Nest
     ensures { result ≡ nest_in kind nest }
 {
     match kind {

@@ -2,20 +2,19 @@
 ghost use Rattle.std.specs.Prelude.{◌≡◌, IfOk};
 ghost use Rattle.ir_forms.specs.declared.types.Ty.TheVariants.{Untyped};
 ghost use Rattle.ir_verify.specs.Breaks.{some_at};
-ghost use Rattle.ir_verify.specs.Calls.{AreMarks, graph_of};
 ghost use Rattle.ir_verify.specs.Verdict.{func_breaks, is_place, noted_head, noted_func, noted_funcs, IsNoted, param_has_async, type_has_async};
 ghost use Rattle.ir_verify.specs.Levels.{level_of};
 
 use crate::breaks::lacks_end;
-use crate::calls::{Call, is_marked, marks};
+use crate::calls::{is_marked, marks};
 use crate::fault::{Broken, VerifyKind, noted};
 use crate::form::Form;
+use crate::graph::graph_of;
 use crate::level::level_of;
 use crate::names::Names;
 use crate::types::has_async_cells;
 use crate::walk::walk_func;
 use ir_forms::{Func, Level, Ty, ValueNo};
-use lists::Items;
 use std::alloc::{AllocError, Global};
 
 fn some_async_param(params: &[(ValueNo, Ty)]) -> bool
@@ -86,25 +85,6 @@ fn noted_func(names: &Names, place: usize, func: &Func, best: Option<Broken>) ->
     noted_head(VerifyKind::AsyncInMemref, names, place, func, best)
 }
 
-/// The calls of each function.
-fn graph_of<'a>(
-    alloc: Global,
-    names: &Names<'a>,
-    untyped: &'a Ty,
-    funcs: &'a [Func],
-) -> Result<Vec<Items<Call>>, AllocError>
-    requires typed { untyped.now ≡ Untyped }
-    requires named { names.now ≡ funcs.now }
-    ensures { IfOk result (λ graph. graph.items ≡ graph_of funcs.now) }
-{
-    let mut graph = Vec::new(alloc);
-    for func in funcs {
-        let walk = walk_func(alloc, names, untyped, func, false, None)?;
-        graph.push(Items::from_vec(walk.calls))?;
-    }
-    Ok(graph)
-}
-
 /// The earliest fault of the functions.
 fn noted_funcs<'a>(
     alloc: Global,
@@ -120,8 +100,7 @@ fn noted_funcs<'a>(
     let mut best = None;
     for (place, func) in funcs.iter().enumerate() {
         let head = noted_func(names, place, func, best);
-        let walk = walk_func(alloc, names, untyped, func, is_marked(marks, place), head)?;
-        best = walk.best;
+        best = walk_func(alloc, names, untyped, func, is_marked(marks, place), head)?;
     }
     Ok(best)
 }
@@ -137,7 +116,7 @@ pub(crate) fn judge<'a>(
     ensures level { IfOk result (λ r. r.1 ≡ level_of funcs.now) }
 {
     let names = Names::new(alloc, funcs)?;
-    let graph = graph_of(alloc, &names, untyped, funcs)?;
+    let graph = graph_of(alloc, &names, funcs)?;
     let marks = marks(alloc, graph.as_slice())?;
     let best = noted_funcs(alloc, &names, untyped, funcs, marks.as_slice())?;
     Ok((best, level_of(funcs)))

@@ -3,28 +3,23 @@ ghost use Rattle.std.specs.Prelude.{◌≡◌, ◌++◌, [], ◌∷◌, OnOk, If
 ghost use Rattle.ir_forms.specs.Ops.{results_of};
 ghost use Rattle.ir_forms.specs.declared.types.Ty.TheVariants.{Untyped};
 ghost use Rattle.ir_verify.specs.Breaks.{noted_all};
-ghost use Rattle.ir_verify.specs.Calls.{call_of, calls_among};
 ghost use Rattle.ir_verify.specs.Places.{in_body, defined, types_of, params_of, places_at, places_in, type_at};
 ghost use Rattle.ir_verify.specs.Sites.{around_of};
 
-use crate::breaks::{is_call, noted_spot};
-use crate::calls::{Call, call_to};
+use crate::breaks::noted_spot;
 use crate::fault::Broken;
-use crate::form::Form;
 use crate::names::Names;
-use crate::place::Nest;
 use crate::scope::Scope;
 use crate::site::{Scene, Site};
 use ir_forms::{Func, Op, Region, Ty, ValueNo};
 use lists::Items;
 use std::alloc::{AllocError, Global};
 
-/// Where the walk stands: what is visible, the earliest fault and the calls so far.
+/// Where the walk stands: what is visible, and the earliest fault so far.
 #[derive(Drop)]
 pub(crate) struct Walk<'a> {
     pub(crate) scope: Scope<'a>,
     pub(crate) best: Option<Broken>,
-    pub(crate) calls: Vec<Call>,
 }
 
 /// Makes the results of an operation visible. One that has no type is untyped.
@@ -65,18 +60,6 @@ fn define_params<'a>(scope: &mut Scope<'a>, params: &'a [(ValueNo, Ty)]) -> Resu
     Ok(())
 }
 
-/// Adds the call that an operation is, if it names a function.
-fn note_call(calls: &mut Vec<Call>, names: &Names, op: &Op, nest: Nest) -> Result<(), AllocError>
-    ensures { OnOk result (calls.new.items ≡ calls.old.items ++ call_of names.now op.now nest) }
-{
-    if is_call(Form::of(op.kind)) {
-        if let Some(call) = call_to(names, &op.attr, nest) {
-            calls.push(call)?;
-        }
-    }
-    Ok(())
-}
-
 impl<'a> Walk<'a> {
     /// Counts the faults of an operation and of what stands in it, and makes its results visible.
     #[cycle(walk)]
@@ -90,7 +73,6 @@ impl<'a> Walk<'a> {
     ) -> Result<(), AllocError>
         requires { untyped.now ≡ Untyped }
         ensures seen { OnOk result (self.new.scope ≡ self.old.scope ++ defined (results_of op.now) (types_of op.now)) }
-        ensures calls { OnOk result (self.new.calls.items ≡ self.old.calls.items ++ calls_among names.now (places_at names.now op.now (around_of scene.now) self.old.scope is_last)) }
         ensures best { OnOk result (self.new.best ≡ noted_all (places_at names.now op.now (around_of scene.now) self.old.scope is_last) self.old.best) }
     {
         let site = Site {
@@ -100,7 +82,6 @@ impl<'a> Walk<'a> {
             op,
         };
         self.best = noted_spot(&self.scope, &site, self.best);
-        note_call(&mut self.calls, names, op, scene.nest)?;
         let regions = op.regions.as_slice();
         for (place, region) in regions.iter().enumerate() {
             self.walk_region(names, untyped, region, &scene.within(op, place))?;
@@ -119,7 +100,6 @@ impl<'a> Walk<'a> {
     ) -> Result<(), AllocError>
         requires { untyped.now ≡ Untyped }
         ensures seen { OnOk result (self.new.scope ≡ self.old.scope) }
-        ensures calls { OnOk result (self.new.calls.items ≡ self.old.calls.items ++ calls_among names.now (places_in names.now region.now (around_of scene.now) self.old.scope)) }
         ensures best { OnOk result (self.new.best ≡ noted_all (places_in names.now region.now (around_of scene.now) self.old.scope) self.old.best) }
     {
         let depth = self.scope.len();
@@ -134,7 +114,7 @@ impl<'a> Walk<'a> {
     }
 }
 
-/// Walks over a function's body, with the faults of others counted before.
+/// The earliest fault of a function's body, with those before counted.
 pub(crate) fn walk_func<'a>(
     alloc: Global,
     names: &Names<'a>,
@@ -142,19 +122,14 @@ pub(crate) fn walk_func<'a>(
     func: &'a Func,
     is_called: bool,
     best: Option<Broken>,
-) -> Result<Walk<'a>, AllocError>
+) -> Result<Option<Broken>, AllocError>
     requires { untyped.now ≡ Untyped }
-    ensures calls { IfOk result (λ walk. walk.calls.items ≡ calls_among names.now (places_in names.now func.now.body (in_body func.now is_called) func.now.params)) }
-    ensures best { IfOk result (λ walk. walk.best ≡ noted_all (places_in names.now func.now.body (in_body func.now is_called) func.now.params) best) }
+    ensures { IfOk result (λ found. found ≡ noted_all (places_in names.now func.now.body (in_body func.now is_called) func.now.params) best) }
 {
     let mut scope = Scope::new(alloc);
     define_params(&mut scope, func.params.as_slice())?;
-    let mut walk = Walk {
-        scope,
-        best,
-        calls: Vec::new(alloc),
-    };
+    let mut walk = Walk { scope, best };
     let scene = Scene::of_body(func, is_called);
     walk.walk_region(names, untyped, &func.body, &scene)?;
-    Ok(walk)
+    Ok(walk.best)
 }

@@ -1,0 +1,72 @@
+//! The calls of each function.
+ghost use Rattle.std.specs.Prelude.{◌≡◌, ◌++◌, OnOk, IfOk};
+ghost use Rattle.ir_forms.specs.Ops.{kind_of, attr_of};
+ghost use Rattle.ir_verify.specs.Calls.{call_of, calls_at, calls_in, graph_of};
+
+use crate::breaks::is_call;
+use crate::calls::{Call, call_to};
+use crate::form::Form;
+use crate::names::Names;
+use crate::place::Nest;
+use crate::site::nest_in;
+use ir_forms::{Func, Op, Region};
+use lists::Items;
+use std::alloc::{AllocError, Global};
+
+/// Adds the call that an operation is, if it names a function.
+fn note_call(calls: &mut Items<Call>, names: &Names, op: &Op, nest: Nest) -> Result<(), AllocError>
+    ensures { OnOk result (calls.new ≡ calls.old ++ call_of names.now (kind_of op.now) (attr_of op.now) nest) }
+{
+    if is_call(Form::of(op.kind)) {
+        if let Some(call) = call_to(names, &op.attr, nest) {
+            calls.push(call)?;
+        }
+    }
+    Ok(())
+}
+
+/// Adds the calls of an operation that stands here, those in its regions too.
+#[cycle(calls)]
+fn note_op(calls: &mut Items<Call>, names: &Names, op: &Op, nest: Nest) -> Result<(), AllocError>
+    ensures { OnOk result (calls.new ≡ calls.old ++ calls_at names.now op.now nest) }
+{
+    note_call(calls, names, op, nest)?;
+    let inner = nest_in(op.kind, nest);
+    for region in op.regions.as_slice() {
+        note_region(calls, names, region, inner)?;
+    }
+    Ok(())
+}
+
+#[cycle(calls)]
+fn note_region(
+    calls: &mut Items<Call>,
+    names: &Names,
+    region: &Region,
+    nest: Nest,
+) -> Result<(), AllocError>
+    ensures { OnOk result (calls.new ≡ calls.old ++ calls_in names.now region.now nest) }
+{
+    for op in region.ops.as_slice() {
+        note_op(calls, names, op, nest)?;
+    }
+    Ok(())
+}
+
+/// The calls of each function, in the order of the functions.
+pub(crate) fn graph_of(
+    alloc: Global,
+    names: &Names,
+    funcs: &[Func],
+) -> Result<Vec<Items<Call>>, AllocError>
+    requires { names.now ≡ funcs.now }
+    ensures { IfOk result (λ graph. graph.items ≡ graph_of funcs.now) }
+{
+    let mut graph = Vec::new(alloc);
+    for func in funcs {
+        let mut calls = Items::new(alloc);
+        note_region(&mut calls, names, &func.body, Nest::InFunction)?;
+        graph.push(calls)?;
+    }
+    Ok(graph)
+}
