@@ -1,5 +1,7 @@
 ghost use Rattle.std.specs.Prelude.{Some};
 
+mod checks;
+
 use crate::run::run;
 use crate::stops::Stop;
 use crate::tool::tool;
