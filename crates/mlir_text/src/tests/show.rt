@@ -155,6 +155,7 @@ fn groups(out: &mut String, groups: &Items<u32>) -> Result<(), AllocError> {
     Ok(())
 }
 
+#[cycle(shown)]
 fn op(out: &mut String, op: &Op) -> Result<(), AllocError> {
     write!(out, "{}#{}", op_table::row(op.kind).name, op.at)?;
     values(out, " ", &op.operands)?;
@@ -169,6 +170,7 @@ fn op(out: &mut String, op: &Op) -> Result<(), AllocError> {
     Ok(())
 }
 
+#[cycle(shown)]
 fn region(out: &mut String, region: &Region) -> Result<(), AllocError> {
     out.push_str(" { ")?;
     params(out, &region.params)?;
