@@ -628,3 +628,49 @@ fn checks_up_to_the_limits(rt: HostRuntime) -> Result<(), Fail> {
     assert!(rt; tool_answers(alloc, &["check"], text.as_slice(), 3, told)?);
     Ok(())
 }
+
+// Functions that call each other in a chain, the last of which awaits a token; a task calls the first.
+fn chain(alloc: Global, count: u32) -> Result<Vec<u8>, AllocError> {
+    let mut buffer = itoa::Buffer::new();
+    let mut text = Vec::new(alloc);
+    for number in 1..count {
+        text.extend_from_slice(b"func.func @f")?;
+        text.extend_from_slice(buffer.format(number).as_bytes())?;
+        text.extend_from_slice(b"(%t: !async.token) { call @f")?;
+        text.extend_from_slice(buffer.format(number + 1).as_bytes())?;
+        text.extend_from_slice(b"(%t) : (!async.token) -> () return }\n")?;
+    }
+    text.extend_from_slice(b"func.func @f")?;
+    text.extend_from_slice(buffer.format(count).as_bytes())?;
+    text.extend_from_slice(b"(%t: !async.token) { async.await %t : !async.token return }\n")?;
+    text.extend_from_slice(b"func.func @main() { %t = async.execute { } ")?;
+    text.extend_from_slice(
+        b"%u = async.execute { call @f1(%t) : (!async.token) -> () async.yield } return }",
+    )?;
+    Ok(text)
+}
+
+// A function of so many assertions and a return.
+fn assertions(alloc: Global, count: u32) -> Result<Vec<u8>, AllocError> {
+    let mut text = b"func.func @m(%a:i1){".to_vec(alloc)?;
+    for _assertion in 0..count {
+        text.extend_from_slice(b"cf.assert %a,\"\"")?;
+    }
+    text.extend_from_slice(b"return}")?;
+    Ok(text)
+}
+
+#[test]
+fn checks_long_modules(rt: HostRuntime) -> Result<(), Fail> {
+    let alloc = rt.alloc();
+    let text = chain(alloc, 1_023)?;
+    let told: &[u8] = b"refused: BlockingAwait at operation 3068\n";
+    assert!(rt; tool_answers(alloc, &["check"], text.as_slice(), 3, told)?);
+    let text = assertions(alloc, 65_534)?;
+    let told: &[u8] = b"ok: 1 functions, 65536 operations\n";
+    assert!(rt; tool_answers(alloc, &["check"], text.as_slice(), 0, told)?);
+    let text = assertions(alloc, 65_535)?;
+    let told: &[u8] = b"refused: Limit Operations at byte 983045\n";
+    assert!(rt; tool_answers(alloc, &["check"], text.as_slice(), 3, told)?);
+    Ok(())
+}
