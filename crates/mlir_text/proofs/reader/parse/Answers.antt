@@ -14,4 +14,4 @@ returns c =
     let are = c.in_ok-toks.ensures ∙ ap (toks_of bytes) c.as_slice.ensures.value in
     let is = c.in_ok-found.ensures ∙ ap (parsed limits level) c.as_slice-2.ensures.value in
     subst (IsParsed limits level bytes) (sym c.answer_of.ensures)
-        (parsed_is c.accepts_exactly.ensures c.names_first_fault.ensures limits level bytes toks c.in_ok-found.found (c.in-Ok.tokens.items, c.in-Ok.ensures.tokens, are) is)
+    (parsed_is c.accepts_exactly.ensures c.names_first_fault.ensures limits level bytes toks c.in_ok-found.found (c.in-Ok.tokens.items, c.in-Ok.ensures.tokens, are) is)
