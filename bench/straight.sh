@@ -2,11 +2,7 @@
 # Time and peak memory of `run` on the largest straight text that the limit of 1,048,576 bytes allows, and on a half
 # and a quarter of it.
 set -eu
-here="$(cd "$(dirname "$0")/.." && pwd)"
-"$here/dofraneg" run <"$here/examples/answer.mlir" >/dev/null
-program="$here/crates/async_cli/out/async_cli"
-text="$(mktemp)"
-trap 'rm -f "$text"' EXIT
+. "$(dirname "$0")/program.sh"
 for bytes in 262144 524288 1048576; do
   awk -v bytes="$bytes" 'BEGIN {
     printf "func.func @main() -> i64 {\n  %%v0 = arith.constant 1 : i64\n"; size = 60

@@ -1,11 +1,7 @@
 #!/usr/bin/env bash
 # Time and peak memory of `run` for 1,000, 4,000 and 12,000 launches that are awaited in order.
 set -eu
-here="$(cd "$(dirname "$0")/.." && pwd)"
-"$here/dofraneg" run <"$here/examples/answer.mlir" >/dev/null
-program="$here/crates/async_cli/out/async_cli"
-text="$(mktemp)"
-trap 'rm -f "$text"' EXIT
+. "$(dirname "$0")/program.sh"
 for launches in 1000 4000 12000; do
   awk -v n="$launches" 'BEGIN {
     print "func.func @main() {"
