@@ -13,20 +13,12 @@ use crate::stops::{ModuleFault, Stop};
 use aio_base::{ReadAllError, Source, read_all};
 use ir_forms::{Level, operation_count, renumber};
 use ir_verify::{EntryFault, Verified, VerifyFault, entry_of, verify};
-use mlir_text::{TextFault, TextLimits, parse};
+use mlir_text::{PROGRAM_LIMITS, TextFault, parse};
 use std::alloc::Global;
 use step_core::Straight;
 
 /// The most bytes of a module's text.
 pub const TEXT_LIMIT: u32 = 1_048_576;
-
-/// How much a module's text may hold.
-pub const TEXT_LIMITS: TextLimits = TextLimits {
-    operations: 65_536,
-    functions: 1_024,
-    depth: 64,
-    values: 1_048_576,
-};
 
 /// The most bytes of a module's text and a journal.
 pub const INPUT_LIMIT: u32 = 536_870_912;
@@ -54,7 +46,7 @@ pub fn read_module(alloc: Global, text: &[u8]) -> Result<Verified, Stop>
     requires { length text.now < 2 ^ 32 }
     ensures { MatchResult result (λ verified. IsAccepted text.now verified.program) (λ stop. ModuleStops text.now stop) }
 {
-    let program = match parse(alloc, text, Level::Source, &TEXT_LIMITS) {
+    let program = match parse(alloc, text, Level::Source, &PROGRAM_LIMITS) {
         Ok(program) => program,
         Err(TextFault::OutOfMemory) => return Err(Stop::OutOfMemory),
         Err(fault) => return Err(Stop::Module(ModuleFault::Text(fault))),

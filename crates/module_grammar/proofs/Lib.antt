@@ -14,3 +14,4 @@ pub mod Stacks
 pub mod FirstWords
 pub mod Passes
 pub mod Unknown
+pub mod Distinct

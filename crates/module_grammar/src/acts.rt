@@ -10,6 +10,7 @@ use crate::parts::{ungrouped, with_else};
 use crate::state::{Entry, OpenBody, OpenFunc, OpenOp, Outer, Param, State, Tok};
 use ir_forms::{Attr, Op, OpKind, Ty, Width};
 use lists::Items;
+use name_lists::NameList;
 use std::alloc::{AllocError, Global};
 use std::mem;
 
@@ -24,11 +25,11 @@ impl OpenOp {
             operands: Items::new(alloc),
             groups: Items::new(alloc),
             written: Items::new(alloc),
-            results: Items::new(alloc),
+            results: NameList::new(alloc),
             types: Items::new(alloc),
             attr: Attr::None,
             regions: Items::new(alloc),
-            params: Items::new(alloc),
+            params: NameList::new(alloc),
         }
     }
 }
@@ -66,7 +67,7 @@ impl State {
         self.begun = up(self.begun, 1);
         self.functions = up(self.functions, 1);
         self.func = OpenFunc::blank(alloc, as_number(self.begun));
-        self.visible = Items::new(alloc);
+        self.visible = NameList::new(alloc);
         self.next = 0;
         self.op = OpenOp::blank(alloc, 0);
         self.body = OpenBody::blank(alloc);
@@ -112,7 +113,7 @@ impl State {
             attr: open.attr,
             regions,
         })?;
-        self.visible.append(open.results)
+        self.visible.append(alloc, open.results)
     }
 
     pub(crate) fn op_at(&mut self)
@@ -128,7 +129,7 @@ impl State {
         ensures { OnOk result (self.new ≡ add_result token.now self.old) }
     {
         let name = token.name(alloc, self.next)?;
-        self.op.results.push(name)?;
+        self.op.results.push(alloc, name)?;
         self.next = number_up(self.next, 1);
         Ok(())
     }
@@ -137,7 +138,7 @@ impl State {
         ensures { OnOk result (self.new ≡ does act.Result self.old) }
     {
         let name = self.last.name(alloc, self.next)?;
-        self.op.results.push(name)?;
+        self.op.results.push(alloc, name)?;
         self.next = number_up(self.next, 1);
         Ok(())
     }
@@ -152,7 +153,7 @@ impl State {
     pub(crate) fn add_operand(&mut self, alloc: Global, token: &Tok) -> Result<(), AllocError>
         ensures { OnOk result (self.new ≡ add_operand token.now self.old) }
     {
-        let value = resolve(self.visible.as_slice(), token.text.as_slice());
+        let value = resolve(&self.visible, token.text.as_slice());
         self.op.operands.push(value)?;
         self.used = Items::from_slice(alloc, token.text.as_slice())?;
         self.counted = up(self.counted, 1);
@@ -162,7 +163,7 @@ impl State {
     pub(crate) fn operand(&mut self, alloc: Global) -> Result<(), AllocError>
         ensures { OnOk result (self.new ≡ does act.Operand self.old) }
     {
-        let value = resolve(self.visible.as_slice(), self.last.text.as_slice());
+        let value = resolve(&self.visible, self.last.text.as_slice());
         self.op.operands.push(value)?;
         self.used = Items::from_slice(alloc, self.last.text.as_slice())?;
         self.counted = up(self.counted, 1);
@@ -180,7 +181,7 @@ impl State {
         ensures { OnOk result (self.new ≡ does act.Hold self.old) }
     {
         let token = self.last.copy(alloc)?;
-        self.held.push(token)
+        self.held.push(alloc, token)
     }
 
     /// The last token names a parameter of this type.
@@ -188,7 +189,7 @@ impl State {
         ensures { OnOk result (self.new ≡ add_param ty self.old) }
     {
         let name = self.last.name(alloc, self.next)?;
-        self.op.params.push(Param { name, ty })?;
+        self.op.params.push(alloc, Param { name, ty })?;
         self.next = number_up(self.next, 1);
         self.counted = up(self.counted, 1);
         Ok(())
@@ -203,7 +204,7 @@ impl State {
             ty: Ty::Untyped,
         })?;
         let name = self.last.name(alloc, self.next)?;
-        self.visible.push(name)?;
+        self.visible.push(alloc, name)?;
         self.next = number_up(self.next, 1);
         self.counted = up(self.counted, 1);
         Ok(())

@@ -1,7 +1,7 @@
 //! Which tokens are of which class.
 ghost use Rattle.std.specs.Prelude.{◌≡◌, ◌&&◌, true, IfOk, bytes_eq};
 ghost use Rattle.module_grammar.specs.Tokens.{word_of, is_index, all_digits, is_up_to};
-ghost use Rattle.module_grammar.specs.Rules.{is_of, allows, none_named, holds_text, are_distinct, are_new, is_byte, is_bracket_byte, is_inner, is_one_type};
+ghost use Rattle.module_grammar.specs.Rules.{is_of, allows, none_named, are_distinct, are_new, is_byte, is_bracket_byte, is_inner, is_one_type};
 ghost use Rattle.module_grammar.specs.State.{is_named, param_names, is_wide};
 
 use crate::names::is_named;
@@ -10,6 +10,7 @@ use crate::symbols::{Class, Keyword};
 use crate::words::is_name_of;
 use ir_forms::{Ty, Width};
 use mlir_lex::TokenKind;
+use name_lists::NameList;
 use std::alloc::{AllocError, Global};
 
 fn is_word(keyword: Keyword, text: &[u8]) -> bool
@@ -107,7 +108,7 @@ fn is_type_of(alloc: Global, class: Class, token: &Tok) -> Result<bool, AllocErr
 }
 
 /// Whether none of the names is that of one of the tokens.
-fn none_named(names: &[Name], tokens: &[Tok]) -> bool
+fn none_named(names: &NameList<Name>, tokens: &[Tok]) -> bool
     ensures { result ≡ none_named names.now tokens.now }
 {
     for token in tokens {
@@ -118,39 +119,26 @@ fn none_named(names: &[Name], tokens: &[Tok]) -> bool
     true
 }
 
-fn holds_text(tokens: &[Tok], text: &[u8]) -> bool
-    ensures { result ≡ holds_text tokens.now text.now }
-{
-    for token in tokens {
-        if token.text.as_slice() == text {
-            return true;
-        }
-    }
-    false
-}
-
 /// Whether no text stands twice among the tokens.
-fn are_distinct(tokens: &[Tok]) -> bool
+fn are_distinct(tokens: &NameList<Tok>) -> bool
     ensures { result ≡ are_distinct tokens.now }
 {
-    for at in 0..tokens.len() {
-        if holds_text(&tokens[at + 1..], tokens[at].text.as_slice()) {
+    let mut at = 0;
+    for token in tokens.as_slice() {
+        if tokens.first(token.text.as_slice()) != Some(at) {
             return false;
         }
+        at += 1;
     }
     true
 }
 
 /// Whether one of the parameters has this name.
-fn is_param(params: &[Param], text: &[u8]) -> bool
+#[tactic(auto, using(crate::proofs::Named::param_first))]
+fn is_param(params: &NameList<Param>, text: &[u8]) -> bool
     ensures { result ≡ is_named (param_names params.now) text.now }
 {
-    for param in params {
-        if param.name.text.as_slice() == text {
-            return true;
-        }
-    }
-    false
+    params.first(text).is_some()
 }
 
 impl Entry {
@@ -229,9 +217,9 @@ impl State {
         ensures { result ≡ are_new self.now self.now.held }
     {
         let held = self.held.as_slice();
-        none_named(self.visible.as_slice(), held)
-            && none_named(self.op.results.as_slice(), held)
-            && are_distinct(held)
+        none_named(&self.visible, held)
+            && none_named(&self.op.results, held)
+            && are_distinct(&self.held)
     }
 
     /// What the state asks of a token of the class besides.
@@ -241,10 +229,8 @@ impl State {
     {
         let text = token.text.as_slice();
         match class {
-            Class::Param => !(is_named(self.visible.as_slice(), text)
-                || is_param(self.op.params.as_slice(), text)),
-            Class::Result => !(is_named(self.visible.as_slice(), text)
-                || is_named(self.op.results.as_slice(), text)),
+            Class::Param => !(is_named(&self.visible, text) || is_param(&self.op.params, text)),
+            Class::Result => !(is_named(&self.visible, text) || is_named(&self.op.results, text)),
             Class::HeldEquals => self.holds_new(),
             Class::HeldNumber => self.held.len() == 1 && self.holds_new(),
             Class::EntryComma | Class::EntryClose => !self.entry.is_wide(),

@@ -45,7 +45,7 @@ impl State {
             Act::OpenRegion => self.open_region(alloc),
             Act::CloseRegion => self.close_region(alloc),
             Act::Result => self.result(alloc),
-            Act::ResultCount => self.result_count(),
+            Act::ResultCount => self.result_count(alloc),
             Act::CountNames => {
                 self.count_names();
                 Ok(())

@@ -15,6 +15,7 @@ use crate::symbols::{Class, Rule, Symbol};
 use ir_forms::{Level, Module};
 use lists::Items;
 use mlir_lex::TokenKind;
+use name_lists::NameList;
 use std::alloc::{AllocError, Global};
 use std::mem;
 
@@ -61,7 +62,7 @@ impl State {
                 joined: false,
             },
             read: Items::new(alloc),
-            visible: Items::new(alloc),
+            visible: NameList::new(alloc),
             next: 0,
             used: Items::new(alloc),
             begun: 0,
@@ -71,7 +72,7 @@ impl State {
             op: OpenOp::blank(alloc, 0),
             body: OpenBody::blank(alloc),
             outer: Items::new(alloc),
-            held: Items::new(alloc),
+            held: NameList::new(alloc),
             entry: Entry::Fresh,
             entry_at: None,
             func: OpenFunc::blank(alloc, 0),

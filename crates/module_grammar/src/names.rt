@@ -1,11 +1,14 @@
 //! The values that names mean.
-ghost use Rattle.std.specs.Prelude.{◌≡◌, ◌++◌, IfOk, OnOk};
+ghost use Rattle.std.specs.Prelude.{◌≡◌, ◌++◌, IfOk, OnOk, slice_get, bytes_eq};
+ghost use Rattle.std.specs.List.{find};
+ghost use Rattle.std.specs.Option.{option_copied};
 ghost use Rattle.module_grammar.specs.State.{first_of, part_of, resolved, resolved_at, is_named, counted_from, values_of_name, values_of, with_names, count_of};
 
 use crate::counting::{number_up, up};
 use crate::state::Name;
 use ir_forms::ValueNo;
 use lists::Items;
+use name_lists::NameList;
 use std::alloc::{AllocError, Global};
 
 impl Name {
@@ -37,40 +40,51 @@ impl Name {
     }
 }
 
+/// The first of the names that is this one.
+#[tactic(auto, using(crate::proofs::Named::found_at, crate::proofs::Named::found_none))]
+fn found<'a>(names: &'a NameList<Name>, text: &[u8]) -> Option<&'a Name>
+    ensures { option_copied result ≡ find (λ n. bytes_eq n.text text.now) names.now }
+{
+    match names.first(text) {
+        Some(place) => name_at(names.as_slice(), place),
+        None => None,
+    }
+}
+
+fn name_at(names: &[Name], place: usize) -> Option<&Name>
+    ensures { option_copied result ≡ slice_get names.now place }
+{
+    names.get(place)
+}
+
 /// The value that a use of a name means.
-pub fn resolve(names: &[Name], text: &[u8]) -> ValueNo
+#[tactic(auto, using(crate::proofs::Named::resolved_found, crate::proofs::Named::resolved_none))]
+pub fn resolve(names: &NameList<Name>, text: &[u8]) -> ValueNo
     ensures { result ≡ resolved names.now text.now }
 {
-    for name in names {
-        if name.text.as_slice() == text {
-            return name.first_value();
-        }
+    match found(names, text) {
+        Some(name) => name.first_value(),
+        None => ValueNo::UNKNOWN,
     }
-    ValueNo::UNKNOWN
 }
 
 /// The value that a use of a name with `#at` means.
-pub fn resolve_at(names: &[Name], text: &[u8], at: Option<u64>) -> ValueNo
+#[tactic(auto, using(crate::proofs::Named::resolved_at_found, crate::proofs::Named::resolved_at_none))]
+pub fn resolve_at(names: &NameList<Name>, text: &[u8], at: Option<u64>) -> ValueNo
     ensures { result ≡ resolved_at names.now text.now at }
 {
-    for name in names {
-        if name.text.as_slice() == text {
-            return name.part(at);
-        }
+    match found(names, text) {
+        Some(name) => name.part(at),
+        None => ValueNo::UNKNOWN,
     }
-    ValueNo::UNKNOWN
 }
 
 /// Whether one of the names is this one.
-pub fn is_named(names: &[Name], text: &[u8]) -> bool
+#[tactic(auto, using(crate::proofs::Named::named_first))]
+pub fn is_named(names: &NameList<Name>, text: &[u8]) -> bool
     ensures { result ≡ is_named names.now text.now }
 {
-    for name in names {
-        if name.text.as_slice() == text {
-            return true;
-        }
-    }
-    false
+    names.first(text).is_some()
 }
 
 /// The count with these names.

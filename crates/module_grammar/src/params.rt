@@ -6,7 +6,7 @@ ghost use Rattle.module_grammar.specs.declared.symbols.Act.TheVariants as act;
 use crate::copies::copy_type;
 use crate::state::{Param, State};
 use ir_forms::Ty;
-use lists::Items;
+use name_lists::NameList;
 use std::alloc::{AllocError, Global};
 
 fn is_untyped(ty: &Ty) -> bool
@@ -16,20 +16,20 @@ fn is_untyped(ty: &Ty) -> bool
 }
 
 /// The parameters, of which those without a type get these types, in order.
-fn typed_by(alloc: Global, params: &[Param], types: &[Ty]) -> Result<Items<Param>, AllocError>
+fn typed_by(alloc: Global, params: &[Param], types: &[Ty]) -> Result<NameList<Param>, AllocError>
     ensures { IfOk result (λ typed. typed ≡ typed_by params.now types.now) }
 {
-    let mut typed = Items::new(alloc);
+    let mut typed = NameList::new(alloc);
     let mut at = 0;
     for param in params {
         let name = param.name.copy(alloc)?;
         if is_untyped(&param.ty) && at < types.len() {
             let ty = copy_type(alloc, &types[at])?;
-            typed.push(Param { name, ty })?;
+            typed.push(alloc, Param { name, ty })?;
             at += 1;
         } else {
             let ty = copy_type(alloc, &param.ty)?;
-            typed.push(Param { name, ty })?;
+            typed.push(alloc, Param { name, ty })?;
         }
     }
     Ok(typed)

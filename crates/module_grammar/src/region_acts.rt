@@ -8,15 +8,16 @@ use crate::counting::{as_number, up};
 use crate::state::{Name, OpenBody, OpenFunc, OpenOp, Outer, Param, State};
 use ir_forms::{Attr, Func, Op, OpKind, Region, Ty, ValueNo};
 use lists::Items;
+use name_lists::NameList;
 use std::alloc::{AllocError, Global};
 use std::mem;
 
 /// Adds copies of the parameters' names to the names.
-fn add_names(alloc: Global, names: &mut Items<Name>, params: &[Param]) -> Result<(), AllocError>
+fn add_names(alloc: Global, names: &mut NameList<Name>, params: &[Param]) -> Result<(), AllocError>
     ensures { OnOk result (names.new ≡ names.old ++ param_names params.now) }
 {
     for param in params {
-        names.push(param.name.copy(alloc)?)?;
+        names.push(alloc, param.name.copy(alloc)?)?;
     }
     Ok(())
 }
@@ -124,9 +125,9 @@ impl State {
         ensures { OnOk result (self.new ≡ does act.OpenBody self.old) }
     {
         let open = mem::replace(&mut self.op, OpenOp::blank(alloc, 0));
-        self.visible = Items::new(alloc);
+        self.visible = NameList::new(alloc);
         add_names(alloc, &mut self.visible, open.params.as_slice())?;
-        self.func.params = open.params;
+        self.func.params = open.params.into_items();
         self.body = OpenBody::blank(alloc);
         self.deepest = self.deepest.max(1);
         Ok(())
@@ -136,7 +137,7 @@ impl State {
         ensures { OnOk result (self.new ≡ does act.OpenRegion self.old) }
     {
         self.deepest = self.deepest.max(up(self.outer.len() as u64, 2));
-        let params = mem::replace(&mut self.op.params, Items::new(alloc));
+        let params = mem::replace(&mut self.op.params, NameList::new(alloc)).into_items();
         let outside = self.visible.len();
         add_names(alloc, &mut self.visible, params.as_slice())?;
         let op = mem::replace(&mut self.op, OpenOp::blank(alloc, 0));

@@ -2,6 +2,7 @@
 use ir_forms::{Attr, Func, Op, OpKind, Region, Ty, ValueNo};
 use lists::Items;
 use mlir_lex::TokenKind;
+use name_lists::{HasName, NameList};
 
 /// A token: its kind, its bytes, the place of the first of them, and whether it follows the token before at once.
 #[derive(Drop)]
@@ -10,6 +11,14 @@ pub struct Tok {
     pub text: Items<u8>,
     pub at: u32,
     pub joined: bool,
+}
+
+impl HasName for Tok {
+    ghost text = { λ t. t.text };
+
+    fn name(&self) -> &[u8] {
+        self.text.as_slice()
+    }
 }
 
 /// A name, the place where it is defined, and the number of its first value.
@@ -23,10 +32,26 @@ pub struct Name {
     pub count: Option<u64>,
 }
 
+impl HasName for Name {
+    ghost text = { λ n. n.text };
+
+    fn name(&self) -> &[u8] {
+        self.text.as_slice()
+    }
+}
+
 #[derive(Drop)]
 pub struct Param {
     pub name: Name,
     pub ty: Ty,
+}
+
+impl HasName for Param {
+    ghost text = { λ p. p.name.text };
+
+    fn name(&self) -> &[u8] {
+        self.name.text.as_slice()
+    }
 }
 
 /// An operation whose end isn't read yet. `params` are those of its next region.
@@ -37,11 +62,11 @@ pub struct OpenOp {
     pub operands: Items<ValueNo>,
     pub groups: Items<u32>,
     pub written: Items<Ty>,
-    pub results: Items<Name>,
+    pub results: NameList<Name>,
     pub types: Items<Ty>,
     pub attr: Attr,
     pub regions: Items<Region>,
-    pub params: Items<Param>,
+    pub params: NameList<Param>,
 }
 
 /// A body whose end isn't read yet, and how many names are visible outside of it.
@@ -86,7 +111,7 @@ pub struct State {
     pub last: Tok,
     pub read: Items<Ty>,
     /// The names that are visible, the newest last; the number of the next value; the name used last.
-    pub visible: Items<Name>,
+    pub visible: NameList<Name>,
     pub next: u32,
     pub used: Items<u8>,
     /// In the whole text: operations and functions begun, the depth of the deepest region, and values' names at definitions
@@ -100,7 +125,7 @@ pub struct State {
     /// The operations in whose regions the text stands, the innermost last.
     pub outer: Items<Outer>,
     /// Names that may be operands or the next operation's results.
-    pub held: Items<Tok>,
+    pub held: NameList<Tok>,
     /// The entry of a dictionary, and the number of the last whole one.
     pub entry: Entry,
     pub entry_at: Option<u64>,

@@ -11,6 +11,7 @@ use crate::words::kind_named;
 use ir_forms::{Attr, CellTy, NumTy, Pred, Ty, ValTy, Width};
 use lists::Items;
 use mlir_lex::TokenKind;
+use name_lists::NameList;
 use std::alloc::{AllocError, Global};
 use std::mem;
 
@@ -115,17 +116,18 @@ impl State {
     }
 
     #[tactic(auto, unfolding(crate::specs::State::does), using(crate::proofs::Lists::last_named))]
-    pub(crate) fn result_count(&mut self) -> Result<(), AllocError>
+    pub(crate) fn result_count(&mut self, alloc: Global) -> Result<(), AllocError>
         ensures { OnOk result (self.new ≡ does act.ResultCount self.old) }
     {
         let number = self.last.number().unwrap_or(0);
         if let Some(name) = self.op.results.pop() {
-            self.op.results.push(Name {
+            let name = Name {
                 text: name.text,
                 at: name.at,
                 first: name.first,
                 count: Some(number),
-            })?;
+            };
+            self.op.results.push(alloc, name)?;
         }
         self.next = number_up(self.next.saturating_sub(1), number);
         Ok(())
@@ -134,7 +136,7 @@ impl State {
     pub(crate) fn held_operands(&mut self, alloc: Global) -> Result<(), AllocError>
         ensures { OnOk result (self.new ≡ does act.HeldOperands self.old) }
     {
-        let held = mem::replace(&mut self.held, Items::new(alloc));
+        let held = mem::replace(&mut self.held, NameList::new(alloc));
         for token in held.as_slice() {
             self.add_operand(alloc, token)?;
         }
@@ -144,7 +146,7 @@ impl State {
     pub(crate) fn held_results(&mut self, alloc: Global) -> Result<(), AllocError>
         ensures { OnOk result (self.new ≡ does act.HeldResults self.old) }
     {
-        let held = mem::replace(&mut self.held, Items::new(alloc));
+        let held = mem::replace(&mut self.held, NameList::new(alloc));
         self.end_op(alloc)?;
         self.begin_op(alloc);
         for token in held.as_slice() {
@@ -160,10 +162,10 @@ impl State {
         let ty = first_type(alloc, &self.read)?;
         self.read = Items::new(alloc);
         match self.op.params.pop() {
-            Some(param) => self.op.params.push(Param {
-                name: param.name,
-                ty,
-            }),
+            Some(param) => {
+                let name = param.name;
+                self.op.params.push(alloc, Param { name, ty })
+            }
             None => Ok(()),
         }
     }
@@ -191,10 +193,10 @@ impl State {
         let types = payload_types(alloc, written)?;
         let ty = first_type(alloc, &types)?;
         match self.op.params.pop() {
-            Some(param) => self.op.params.push(Param {
-                name: param.name,
-                ty,
-            }),
+            Some(param) => {
+                let name = param.name;
+                self.op.params.push(alloc, Param { name, ty })
+            }
             None => Ok(()),
         }
     }
@@ -260,11 +262,7 @@ impl State {
     pub(crate) fn operand_index(&mut self) -> Result<(), AllocError>
         ensures { OnOk result (self.new ≡ does act.OperandIndex self.old) }
     {
-        let value = resolve_at(
-            self.visible.as_slice(),
-            self.used.as_slice(),
-            self.last.index(),
-        );
+        let value = resolve_at(&self.visible, self.used.as_slice(), self.last.index());
         self.op.operands.pop();
         self.op.operands.push(value)
     }

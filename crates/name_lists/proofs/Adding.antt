@@ -1,5 +1,5 @@
 -- The index of a list with one thing more, or one less.
-use Rattle.std.proofs.Common.{◌≡◌, ◌<◌, ℕ, zero, suc, ◌+◌, ◌-◌, true, false, cond, ◌==◌, List, [], ◌∷◌, ◌++◌, length, take, get_or, set, refl, sym, ap, subst, ◌∙◌, ◌⊎◌, inl, inr, arith}
+use Rattle.std.proofs.Common.{◌≡◌, ◌<◌, ℕ, zero, suc, ◌+◌, true, false, cond, ◌==◌, List, [], ◌∷◌, ◌++◌, length, take, get_or, set, refl, sym, ap, subst, ◌∙◌, ◌⊎◌, inl, inr, arith}
 use Rattle.std.proofs.Math.ListN.{get_or-append}
 use Rattle.std.proofs.Math.Seq.{get_or-append_seam, take-append_seam}
 use Rattle.std.proofs.lemmas.Bool.Decides.{eqb_tells}
@@ -125,8 +125,3 @@ module _ {A : Type 0} (name : A → List ℕ) where
 
   pub below_all : (len k : ℕ) (heads : List ℕ) → len ≡ length heads → k < len → k < length heads
   below_all len k heads size below = subst (λ m. k < m) size below
-
-  pub all_but_last : (xs ys : List A) (x : A) → ys ≡ xs ++ x ∷ [] → xs ≡ take (length ys - 1) ys
-  all_but_last xs ys x is =
-      let one : length (xs ++ x ∷ []) - 1 ≡ length xs = (let long' = length-append xs (x ∷ []) in omega (arith, long')) in
-      rw (is, one) (sym (take-append_seam xs (x ∷ [])))

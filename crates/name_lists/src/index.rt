@@ -1,5 +1,5 @@
 //! The index of a list by the hashes of its things' names.
-ghost use Rattle.std.specs.Prelude.{◌≡◌, ◌<◌, ◌-◌, ◌++◌, ◌∷◌, [], List, ℕ, length, take, get_or, IfOk, OnOk, OnErr};
+ghost use Rattle.std.specs.Prelude.{◌≡◌, ◌<◌, ◌++◌, ◌∷◌, [], List, ℕ, length, get_or, MatchOption, IfOk, OnOk, OnErr};
 ghost use Rattle.name_lists.specs.Index as spec;
 ghost use Rattle.name_lists.specs.Index.{first_named, bucket_of, IsIndex};
 
@@ -100,21 +100,20 @@ pub(crate) fn add<T: HasName + Drop>(
 }
 
 /// Takes the last thing off.
-pub(crate) fn drop_last<T: HasName + Drop>(
+pub(crate) fn pop_last<T: HasName + Drop>(
     items: &mut Items<T>,
     before: &mut Vec<usize>,
     heads: &mut Vec<usize>,
-)
+) -> Option<T>
     requires { IsIndex (bucket_of T.text (length heads.old.items)) items.old before.old.items heads.old.items }
-    ensures items { items.new ≡ take (length items.old - 1) items.old }
+    ensures items { MatchOption result ((items.old ≡ []) × (items.new ≡ [])) (λ last. items.old ≡ items.new ++ last ∷ []) }
     ensures index { IsIndex (bucket_of T.text (length heads.new.items)) items.new before.new.items heads.new.items }
 {
-    let Some(item) = items.pop() else {
-        return;
-    };
+    let item = items.pop()?;
     let Some(last) = before.pop() else {
         unreachable!();
     };
     let place = bucket(item.name(), heads.len());
     heads[place] = last;
+    Some(item)
 }

@@ -1,8 +1,8 @@
 //! A list of things with names.
-ghost use Rattle.std.specs.Prelude.{◌≡◌, ◌++◌, ◌∷◌, [], length, take, OnOk, OnErr};
+ghost use Rattle.std.specs.Prelude.{◌≡◌, ◌++◌, ◌∷◌, [], length, take, MatchOption, OnOk, OnErr};
 ghost use Rattle.name_lists.specs.Index.{first_named};
 
-use crate::index::{HasName, add, drop_last, find, indexed};
+use crate::index::{HasName, add, find, indexed, pop_last};
 use lists::Items;
 use std::alloc::{AllocError, Global};
 use std::marker::Model;
@@ -98,12 +98,19 @@ impl<T: HasName + Drop> NameList<T> {
         Ok(())
     }
 
+    /// Takes the last thing off.
+    pub fn pop(&mut self) -> Option<T>
+        ensures { MatchOption result ((self.old ≡ []) × (self.new ≡ [])) (λ last. self.old ≡ self.new ++ last ∷ []) }
+    {
+        pop_last(&mut self.items, &mut self.before, &mut self.heads)
+    }
+
     /// Keeps the first things, as many as this or all.
     pub fn truncate(&mut self, len: usize)
         ensures { self.new ≡ take len self.old }
     {
         while len < self.items.len() {
-            drop_last(&mut self.items, &mut self.before, &mut self.heads);
+            let _last = pop_last(&mut self.items, &mut self.before, &mut self.heads);
         }
     }
 }

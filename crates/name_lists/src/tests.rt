@@ -41,6 +41,7 @@ fn finds_the_first_of_each_name(rt: HostRuntime) -> Result<(), Fail> {
         assert_eq!(rt; list.first(sought.name()), Some(number));
     }
     assert_eq!(rt; list.first(b"w100"), None);
+    assert_eq!(rt; list.pop().is_some(), true);
     list.truncate(70);
     assert_eq!(rt; list.first(b"w69"), Some(69));
     assert_eq!(rt; list.first(b"w70"), None);

@@ -1,10 +1,14 @@
-//! Reads a module from standard input, and prints how many functions and operations it has, or why it is none.
+//! Reads a module from standard input, and prints its printed text, or why it is none.
 #![tactic(auto)]
 
-use ir_forms::{Level, operation_count};
+#[cfg(test)]
+mod tests;
+
+use ir_forms::Level;
+use mlir_print::print;
 use mlir_text::{PROGRAM_LIMITS, parse};
 use std::io;
-use std::io::Read;
+use std::io::{Read, Write};
 
 fn main(rt: HostRuntime) -> io::Result<()> {
     let mut text = Vec::new(rt.alloc());
@@ -14,9 +18,8 @@ fn main(rt: HostRuntime) -> io::Result<()> {
     }
     match parse(rt.alloc(), &text, Level::Source, &PROGRAM_LIMITS) {
         Ok(module) => {
-            let functions = module.funcs.len();
-            let operations = operation_count(&module).unwrap_or(u32::MAX);
-            println!(rt; "{functions} functions, {operations} operations")
+            let printed = print(rt.alloc(), &module)?;
+            rt.stdout().write_all(&printed)
         }
         Err(fault) => println!(rt; "{fault}"),
     }

@@ -1,0 +1,9 @@
+pub mod Foldings
+pub mod Pairs
+pub mod Walking
+pub mod Spacing
+pub mod Separators
+pub mod Words
+pub mod FormSpacing
+pub mod TextSpacing
+pub mod Taking

@@ -1,0 +1,9 @@
+use Rattle.std.proofs.Common.{◌≡◌, ◌++◌, drop}
+use Rattle.mlir_print.specs.Docs.{bytes_of}
+use Rattle.mlir_print.specs.Forms.{more_inits}
+use Rattle.mlir_print.proofs.forms.push_more_inits.Given as goal
+
+-- the text so far, and what is left, are all
+abbrev pub invariant-loop-place : goal.invariant-loop-place
+invariant-loop-place l =
+    l.text.items ++ bytes_of (more_inits (drop l.place l.params) (drop l.place l.list)) ≡ l.initial.text.items ++ bytes_of (more_inits l.params l.list)

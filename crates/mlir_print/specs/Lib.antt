@@ -1,0 +1,6 @@
+pub mod Docs
+pub mod Types
+pub mod Tokens
+pub mod Forms
+pub mod Printed
+pub mod Spelled
