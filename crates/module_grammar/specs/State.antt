@@ -260,9 +260,9 @@ unless_ended None ops = None
 abbrev pub left_out : OpKind → List Ty → List Op → Option OpKind
 left_out k types ops = unless_ended (terminator_of k (length types)) ops
 
--- in a parallel body a last yield without operands is a reduce, with the yield's number
+-- in a parallel body a last yield without operands is a reduce
 abbrev pub as_reduce : Op → Op
-as_reduce o = if is_yield (kind_of o) && length (operands_of o) == 0 then made op.ScfReduce (out-Op o).at else o
+as_reduce o = if is_yield (kind_of o) && length (operands_of o) == 0 then roll-Op (record (out-Op o) { kind = op.ScfReduce }) else o
 
 abbrev pub last_as_reduce : List Op → List Op
 last_as_reduce [] = []

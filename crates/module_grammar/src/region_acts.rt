@@ -100,23 +100,31 @@ fn left_out(kind: OpKind, types: &Items<Ty>, ops: &Items<Op>) -> Option<OpKind>
     }
 }
 
-/// In a parallel body a last yield without operands is a reduce, with the yield's number.
+/// In a parallel body a last yield without operands is a reduce.
 #[tactic(auto, using(crate::proofs::Lists::last_reduced))]
-fn body_ops(alloc: Global, kind: OpKind, ops: Items<Op>) -> Result<Items<Op>, AllocError>
+fn body_ops(kind: OpKind, ops: Items<Op>) -> Result<Items<Op>, AllocError>
     ensures { IfOk result (λ all. all ≡ body_ops kind ops) }
 {
     let mut ops = ops;
     if matches!(kind, OpKind::ScfParallel) {
         if let Some(last) = ops.pop() {
-            let last = if is_yield(last.kind) && last.operands.len() == 0 {
-                made(alloc, OpKind::ScfReduce, last.at)
-            } else {
-                last
-            };
-            ops.push(last)?;
+            ops.push(as_reduce(last))?;
         }
     }
     Ok(ops)
+}
+
+fn as_reduce(op: Op) -> Op
+    ensures { result ≡ as_reduce op }
+{
+    if is_yield(op.kind) && op.operands.len() == 0 {
+        Op {
+            kind: OpKind::ScfReduce,
+            ..op
+        }
+    } else {
+        op
+    }
 }
 
 #[tactic(auto, unfolding(crate::specs::State::does))]
@@ -159,7 +167,7 @@ impl State {
             return Ok(());
         };
         let body = mem::replace(&mut self.body, outer.body);
-        let mut ops = body_ops(alloc, outer.op.kind, body.ops)?;
+        let mut ops = body_ops(outer.op.kind, body.ops)?;
         if let Some(kind) = left_out(outer.op.kind, &outer.op.types, &ops) {
             self.begun = up(self.begun, 1);
             ops.push(made(alloc, kind, as_number(self.begun)))?;

@@ -48,7 +48,7 @@ fn prints_printed_texts_as_they_are(rt: HostRuntime) -> Result<(), Fail> {
 }
 
 /// Texts as a user may write them, and how they print.
-const WRITTEN: [(&str, &str); 5] = [
+const WRITTEN: [(&str, &str); 6] = [
     (
         "module @m attributes {a.b = 1.5 : f32} { func.func private @f(%a: i64 {x.y}, %b: i64) -> (i64) { %c:1 = arith.addi %a, %b {z} : i64 loc(unknown) return %c#0 : i64 } }",
         "func.func @f(%0 : i64, %1 : i64) -> i64 {\n  %2 = arith.addi %0, %1 : i64\n  func.return %2 : i64\n}\n",
@@ -68,6 +68,10 @@ const WRITTEN: [(&str, &str); 5] = [
     (
         "func.func @f(%l: index) { scf.parallel (%i, %j) = (%l, %l) to (%l, %l) step (%l, %l) { scf.yield } return }",
         "func.func @f(%0 : index) {\n  scf.parallel (%1, %2) = (%0, %0) to (%0, %0) step (%0, %0) {\n    scf.reduce\n  }\n  func.return\n}\n",
+    ),
+    (
+        "func.func @f(%l: index) { scf.parallel (%i) = (%l) to (%l) step (%l) { %z = scf.yield } return %l : index }",
+        "func.func @f(%0 : index) {\n  scf.parallel (%1) = (%0) to (%0) step (%0) {\n    %2 = scf.reduce\n  }\n  func.return %0 : index\n}\n",
     ),
 ];
 

@@ -612,7 +612,7 @@ fn reads_types(rt: HostRuntime) -> Result<(), Fail> {
 
 #[test]
 fn reads_lists_and_loops(rt: HostRuntime) -> Result<(), Fail> {
-    let rows: [(&[u8], &[u8]); 17] = [
+    let rows: [(&[u8], &[u8]); 18] = [
         (
             b"func.func @main(%v: !async.coro.id) { return }",
             b"refused: UnknownType at byte 20",
@@ -668,6 +668,10 @@ fn reads_lists_and_loops(rt: HostRuntime) -> Result<(), Fail> {
         (
             b"func.func @main(%a: index) { scf.parallel (%i) = (%a) to (%a) step (%a) { scf.yield %a : index } return }",
             b"refused: Terminator at operation 3",
+        ),
+        (
+            b"func.func @main(%a: index) { scf.parallel (%i) = (%a) to (%a) step (%a) { %z = scf.yield } return }",
+            b"refused: Arity at operation 3",
         ),
         (
             b"func.func @main(%a: index) { scf.parallel (%i, %j) = (%a) to (%a, %a) step (%a, %a) { } return }",
