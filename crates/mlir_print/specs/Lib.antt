@@ -4,3 +4,5 @@ pub mod Tokens
 pub mod Forms
 pub mod Printed
 pub mod Spelled
+pub mod Printable
+pub mod Depth

@@ -1,0 +1,4 @@
+pub mod AsciiWords
+pub mod AsciiForms
+pub mod AsciiTexts
+pub mod FewTokens
