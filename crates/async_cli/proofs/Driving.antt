@@ -3,8 +3,7 @@ use Rattle.std.proofs.Common.{◌≡◌, ℕ, ◌+◌, ◌<◌, ◌≤◌, List,
 use Rattle.std.proofs.lemmas.Bool.{cases_lt}
 use Rattle.std.proofs.lemmas.Option.{slice_get_past}
 use Rattle.step_core.specs.declared.ends.Entry.{Entry}
-use Rattle.step_core.specs.declared.tasks.Task.{Task}
-use Rattle.step_core.specs.State.{State, live}
+use Rattle.step_core.specs.State.{State}
 use Rattle.step_core.specs.Step.{and_then, core_step, task_step}
 use Rattle.step_core.specs.Journal.{replay, entry_after}
 use Rattle.run_journal.specs.Growth.{IsWithin}
@@ -46,8 +45,3 @@ pub possible-push : (start s last : State) (journal longer : List Entry) (entry 
     longer ≡ journal ++ entry ∷ [] → entry_after s entry ≡ Some last → IsPossible start longer
 possible-push start s last journal longer entry replayed is next =
     (last, ap (λ l. replay l start) is ∙ replay-push journal entry start s last replayed next)
-
-pub live_le : (tasks : List (Option Task)) → live tasks ≤ length tasks
-live_le [] = omega arith
-live_le (Some task ∷ tasks) = let rest = live_le tasks in omega arith
-live_le (None ∷ tasks) = let rest = live_le tasks in omega arith

@@ -1,5 +1,5 @@
 -- The entry's number is that of a function of the module.
-use Rattle.std.proofs.Common.{◌≡◌, ℕ, zero, suc, ◌+◌, List, [], ◌∷◌, Bool, true, false, cond, Result, Ok, Err, slice_get, refl, arith, subst, ap, sym, ◌∙◌, Option, Some, None, codes}
+use Rattle.std.proofs.Common.{◌≡◌, ℕ, zero, suc, ◌+◌, List, [], ◌∷◌, Bool, true, false, cond, Result, Ok, Err, slice_get, refl, arith, subst, ap, sym, ◌∙◌, Some, None, codes}
 use Rattle.std.specs.Str.{bytes_eq}
 use Rattle.ir_forms.specs.declared.ops.Func.{Func}
 use Rattle.ir_forms.specs.declared.runs.FuncNo.{FuncNo}

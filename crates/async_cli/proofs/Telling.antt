@@ -1,5 +1,5 @@
 -- How the parts of a call make its answer.
-use Rattle.std.proofs.Common.{◌≡◌, ◌≤◌, ◌<◌, ℕ, List, [], length, Option, Some, None, Result, Ok, Err, MatchResult, Vec, Global, refl, sym, ap, subst, inl, inr, codes, ◌∙◌}
+use Rattle.std.proofs.Common.{◌≡◌, ◌≤◌, ℕ, List, [], length, Option, Some, None, Result, Ok, Err, MatchResult, Vec, Global, refl, sym, ap, subst, inr, codes, ◌∙◌}
 use Rattle.aio_base.specs.Whole.{Told}
 use Rattle.ir_forms.specs.declared.ops.Func.{Func}
 use Rattle.ir_forms.specs.declared.ops.Module.{Module}
@@ -21,7 +21,7 @@ use Rattle.async_cli.specs.Checks.{CheckEnds, CheckCauses, accepted_line}
 use Rattle.async_cli.specs.Inputs.{input_limit, IsSplit}
 use Rattle.async_cli.specs.Replays.{IsGiven, AreLines, EntryListStops, ReplayCauses, ReplayEnds}
 use Rattle.async_cli.specs.Tools.{ToolOwes}
-use Rattle.async_cli.specs.Runs.{Asks, Enters, LeadsTo, Finishes, RunStops, Causes, Ends, Owes, Tells, Answers}
+use Rattle.async_cli.specs.Runs.{Asks, Enters, LeadsTo, Finishes, RunStops, Causes, Ends, Tells, Answers}
 
 -- an empty journal leads to the start
 pub begins : (entry : Func) (journal : List Entry) → journal ≡ [] → (s : State) × LeadsTo entry journal s

@@ -1,5 +1,5 @@
 -- What `check` owes for each answer.
-use Rattle.std.specs.Prelude.{ℕ, ◌≡◌, ◌≤◌, List, length, codes}
+use Rattle.std.specs.Prelude.{ℕ, ◌≡◌, List, length, codes}
 use Rattle.aio_base.specs.Whole.{Told}
 use Rattle.ir_forms.specs.declared.ops.Module.{Module}
 use Rattle.ir_forms.specs.Numbers.{operations_of}

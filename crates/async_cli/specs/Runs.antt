@@ -1,5 +1,5 @@
 -- What `run` owes for each answer.
-use Rattle.std.specs.Prelude.{ℕ, ◌≡◌, ◌≤◌, ◌⊎◌, List, [], length, Option, Some, None, codes}
+use Rattle.std.specs.Prelude.{ℕ, ◌≡◌, ◌⊎◌, List, [], length, Option, Some, None, codes}
 use Rattle.ir_forms.specs.declared.ops.Func.{Func}
 use Rattle.step_core.specs.declared.ends.Entry.{Entry}
 use Rattle.step_core.specs.Code.{straight_of}

@@ -1,5 +1,5 @@
 -- The status and the text of each answer.
-use Rattle.std.specs.Prelude.{ℕ, Bool, true, false, if◌then◌else◌, ◌==◌, ◌++◌, List, [], Option, Some, None, codes}
+use Rattle.std.specs.Prelude.{ℕ, if◌then◌else◌, ◌==◌, ◌++◌, List, [], Option, Some, None, codes}
 use Rattle.async_cli.specs.declared.stops.Stop.{Stop}
 use Rattle.async_cli.specs.declared.stops.Stop.TheVariants.{Words, Read, TooLong, Module, NoEntry, EntryType, NotYet, Short, Spent, Write, OutOfMemory}
 use Rattle.async_cli.specs.declared.stops.ModuleFault.{ModuleFault}

@@ -38,7 +38,7 @@ abbrev all_below : (ℕ → Bool) → ℕ → Bool
 all_below test zero = true
 all_below test (suc n) = test n && all_below test n
 
-passes : (test : ℕ → Bool) (n d : ℕ) → all_below test n ≡ true → d < n → test d ≡ true
+pub passes : (test : ℕ → Bool) (n d : ℕ) → all_below test n ≡ true → d < n → test d ≡ true
 passes test zero d all within = absurd (omega arith)
 passes test (suc n) d all within = by_case (passes test n d (both (test n) (all_below test n) all).1) (eqb d n) refl
   where

@@ -46,7 +46,7 @@ begun-grew : (k : Option OpKind) (n : ℕ) → n ≤ begun_with k n
 begun-grew None n = le_refl n
 begun-grew (Some k) n = omega arith
 
-names-grew : (ns : List Name) (n : ℕ) → n ≤ with_names n ns
+pub names-grew : (ns : List Name) (n : ℕ) → n ≤ with_names n ns
 names-grew [] n = le_refl n
 names-grew (x ∷ ns) n = let h = names-grew ns (up n (count_of x.count)) in omega (arith, h)
 

@@ -15,3 +15,6 @@ pub mod FirstWords
 pub mod Passes
 pub mod Unknown
 pub mod Distinct
+pub mod Fitting
+pub mod TokenClasses
+pub mod Exact

@@ -1,5 +1,5 @@
 -- Where an unknown operation or type is answered, one that is known fits.
-use Rattle.std.proofs.Common.{◌≡◌, ℕ, Bool, true, false, cond, not, ◌&&◌, ◌||◌, List, [], ◌∷◌, ◌++◌, Option, Some, None, is_some, nat_le, nat_lt, ◌+◌, refl, sym, ap, ◌∙◌, subst}
+use Rattle.std.proofs.Common.{◌≡◌, ℕ, Bool, true, false, cond, ◌&&◌, ◌||◌, List, [], ◌∷◌, ◌++◌, Option, Some, None, Err, is_some, nat_le, nat_lt, ◌+◌, refl, sym, ap, ◌∙◌, subst}
 use Rattle.op_table.specs.declared.kind.OpKind.TheVariants as op
 use Rattle.op_table.specs.declared.rows.Level.{Level}
 use Rattle.op_table.specs.declared.rows.Level.TheVariants.{Source, Checked, Split, Low}
@@ -26,7 +26,7 @@ use Rattle.module_grammar.specs.Rules.{grammar, lines, may_end, is_of, is_byte, 
 use Rattle.module_grammar.specs.Tokens.{number_of, type_of, memref_type}
 use Rattle.module_grammar.specs.Endings.{endings, usable, plain_sample}
 use Rattle.module_grammar.specs.Texts.{whole}
-use Rattle.module_grammar.specs.Faults.{seeks, any_first, fits_first, begins_type, is_op_class, is_type_class, settled, reached, limit_passed, op_place, value_place, place_in, results_open, refusal, held_fault, names_fault, fault_or, wide_fault, entry_fault, token_fault, second_fault, is_unknown_op, is_unknown_type, is_wide_number, is_second_name, counts_held, open_name_past, IsCause, names_no_op, names_op, IsUnknown, TellsUnknownOp, TellsUnknownType}
+use Rattle.module_grammar.specs.Faults.{seeks, any_first, fits_first, begins_type, is_op_class, is_type_class, settled, reached, limit_passed, op_place, value_place, place_in, results_open, refusal, held_fault, names_fault, fault_or, wide_fault, entry_fault, token_fault, second_fault, is_unknown_op, is_unknown_type, is_wide_number, is_second_name, counts_held, open_name_past, IsCause, names_no_op, names_form, begins_no_type, IsWithin, IsUnknown, TellsUnknownType, parsed}
 use Rattle.module_grammar.proofs.Runs.{by_test, by_option, step-nothing, step-line, step-word}
 use Rattle.module_grammar.proofs.Ends.{and-left, and-right, step-keeps, completes}
 use Rattle.module_grammar.proofs.FirstFault.{begins-before}
@@ -101,16 +101,16 @@ op-word : (c : Class) → is_op_class c ≡ true → usable c ≡ true → ⊥
 op-word (class.OpName k) e u = absurd cc
 op-word _ e u = absurd cc
 
-op-named : (level : Level) → names_op level op_token ≡ true
+op-named : (level : Level) → names_form level op_token ≡ true
 op-named Source = refl
 op-named Checked = refl
 op-named Split = refl
 op-named Low = refl
 
 op-fits : (level : Level) (k : List Symbol) (s : State) → good_then (grammar level) (endings level) k class.End ≡ true
-    → fits_first level sought.Op k ≡ true → Fits level (names_op level) k s
+    → fits_first level sought.Op k ≡ true → Fits level (names_form level) k s
 op-fits level k s g f =
-    fits-some level sought.Op (names_op level)
+    fits-some level sought.Op (names_form level)
     (λ r s e. (op_token, op-named level, op-line level r s e))
     (λ c s u e. absurd (op-word c e u)) k s g f
 
@@ -155,12 +155,12 @@ type-fits level k s g f =
 
 -- ---- the place that tokens reach
 
-reached-some : (level : Level) (k : List Symbol) (s : State) (u : Tok) (front : List Tok) (p q : Place State)
+pub reached-some : (level : Level) (k : List Symbol) (s : State) (u : Tok) (front : List Tok) (p q : Place State)
     → step (grammar level) k s u ≡ Some p → reached level k s (u ∷ front) ≡ Some q
     → reached level (settled p.left p.state).left (settled p.left p.state).state front ≡ Some q
 reached-some level k s u front p q f e = sym (rw (f, reached) refl) ∙ e
 
-reached-none : {X : Type 0} (level : Level) (k : List Symbol) (s : State) (u : Tok) (front : List Tok) (q : Place State)
+pub reached-none : {X : Type 0} (level : Level) (k : List Symbol) (s : State) (u : Tok) (front : List Tok) (q : Place State)
     → step (grammar level) k s u ≡ None → reached level k s (u ∷ front) ≡ Some q → X
 reached-none level k s u front q f e = let a : None ≡ Some q = sym (rw (f, reached) refl) ∙ e in absurd cc
 
@@ -169,7 +169,7 @@ step-good : (level : Level) (k : List Symbol) (s : State) (u : Tok) (p : Place S
     → good_then (grammar level) (endings level) (settled p.left p.state).left class.End ≡ true
 step-good level k s u p g f = settle-good level p.left p.state (step-keeps (grammar level) (endings level) (can-end level) class.End k s u p g f)
 
-reached-good : (level : Level) (front : List Tok) (k : List Symbol) (s : State) (q : Place State)
+pub reached-good : (level : Level) (front : List Tok) (k : List Symbol) (s : State) (q : Place State)
     → good_then (grammar level) (endings level) k class.End ≡ true → reached level k s front ≡ Some q
     → good_then (grammar level) (endings level) q.left class.End ≡ true
 reached-good level [] k s q g e =
@@ -190,7 +190,7 @@ begins-here level k s t g h =
     (step-keeps (grammar level) (endings level) (can-end level) class.End k s t p g f)))
     (λ f. let a : false ≡ true = sym (ap is_some f) ∙ h in absurd cc)
 
-begins-there : (level : Level) (front : List Tok) (k : List Symbol) (s : State) (q : Place State) (t : Tok)
+pub begins-there : (level : Level) (front : List Tok) (k : List Symbol) (s : State) (q : Place State) (t : Tok)
     → good_then (grammar level) (endings level) k class.End ≡ true → reached level k s front ≡ Some q
     → is_some (step (grammar level) q.left q.state t) ≡ true → Begins (grammar level) k s (front ++ t ∷ [])
 begins-there level [] k s q t g e h =
@@ -310,17 +310,18 @@ and-parts true true false e = absurd cc
 and-parts true false c e = absurd cc
 and-parts false b c e = absurd cc
 
-unknown : (level : Level) (front : List Tok) (place : Place State) (t : Tok) (rest : List Tok) (at : ℕ) (wrong right : Tok → Bool)
-    → reached level whole at_start front ≡ Some place → Begins (grammar level) whole at_start front
+unknown : (limits : TextLimits) (level : Level) (front : List Tok) (place : Place State) (t : Tok) (rest : List Tok) (at : ℕ) (wrong right : Tok → Bool)
+    → reached level whole at_start front ≡ Some place → IsWithin limits place.state → Begins (grammar level) whole at_start front
     → (Begins (grammar level) whole at_start (front ++ t ∷ []) → ⊥) → t.at ≡ at → wrong t ≡ true
-    → Fits level right place.left place.state → IsUnknown level (front ++ t ∷ rest) at wrong right
-unknown level front place t rest at wrong right r b refuses h w x = record {
+    → Fits level right place.left place.state → IsUnknown limits level (front ++ t ∷ rest) at wrong right
+unknown limits level front place t rest at wrong right r i b refuses h w x = record {
   front = front;
   token = t;
   rest = rest;
   parts = refl;
   here = h;
   is_wrong = w;
+  within = (place, r, i);
   fits = text-begins level front b;
   refused = λ y. refuses (begins-text level (front ++ t ∷ []) y);
   other = x.0;
@@ -329,43 +330,44 @@ unknown level front place t rest at wrong right r b refuses h w x = record {
 }
 
 cause-op : (limits : TextLimits) (level : Level) (front : List Tok) (place : Place State) (rest : List Tok) (f : GrammarFault) (at : ℕ)
-    → reached level whole at_start front ≡ Some place → Begins (grammar level) whole at_start front
+    → reached level whole at_start front ≡ Some place → IsWithin limits place.state → Begins (grammar level) whole at_start front
     → IsCause limits level whole at_start front place rest f → f ≡ fault.UnknownOp at
-    → IsUnknown level (front ++ rest) at (names_no_op level) (names_op level)
-cause-op limits level front place _ _ at r b (IsCause.refused t rest refuses) e =
+    → IsUnknown limits level (front ++ rest) at (names_no_op level) (names_form level)
+cause-op limits level front place _ _ at r i b (IsCause.refused t rest refuses) e =
     let u = refused-op limits level place.left place.state t at e in
     let p = and-parts (fits_first level sought.Op place.left) _ _ u.0 in
-    unknown level front place t rest at (names_no_op level) (names_op level) r b refuses u.1 p.1
+    unknown limits level front place t rest at (names_no_op level) (names_form level) r i b refuses u.1 p.1
     (op-fits level place.left place.state (reached-good level front whole at_start place (whole-good level) r) p.0)
-cause-op limits level front place _ _ at r b (IsCause.passed t rest p f c g i) e =
-    let a : false ≡ true = sym (limit-not tells-op (λ w x. refl) (λ x. refl) (λ x. refl) limits place.state (settled p.left p.state).state t f i) ∙ ap tells-op e in absurd cc
-cause-op limits level front place _ _ at r b (IsCause.cut h) e = absurd cc
-cause-op limits level front place _ _ at r b (IsCause.passed_last last f g i) e =
-    let a : false ≡ true = sym (limit-not tells-op (λ w x. refl) (λ x. refl) (λ x. refl) limits place.state last place.state.last f i) ∙ ap tells-op e in absurd cc
+cause-op limits level front place _ _ at r i b (IsCause.passed t rest p f c g j) e =
+    let a : false ≡ true = sym (limit-not tells-op (λ w x. refl) (λ x. refl) (λ x. refl) limits place.state (settled p.left p.state).state t f j) ∙ ap tells-op e in absurd cc
+cause-op limits level front place _ _ at r i b (IsCause.cut h) e = absurd cc
+cause-op limits level front place _ _ at r i b (IsCause.passed_last last f g j) e =
+    let a : false ≡ true = sym (limit-not tells-op (λ w x. refl) (λ x. refl) (λ x. refl) limits place.state last place.state.last f j) ∙ ap tells-op e in absurd cc
 
 cause-type : (limits : TextLimits) (level : Level) (front : List Tok) (place : Place State) (rest : List Tok) (f : GrammarFault) (at : ℕ)
-    → reached level whole at_start front ≡ Some place → Begins (grammar level) whole at_start front
+    → reached level whole at_start front ≡ Some place → IsWithin limits place.state → Begins (grammar level) whole at_start front
     → IsCause limits level whole at_start front place rest f → f ≡ fault.UnknownType at
-    → IsUnknown level (front ++ rest) at (λ t. not (begins_type t)) begins_type
-cause-type limits level front place _ _ at r b (IsCause.refused t rest refuses) e =
+    → IsUnknown limits level (front ++ rest) at begins_no_type begins_type
+cause-type limits level front place _ _ at r i b (IsCause.refused t rest refuses) e =
     let u = refused-type limits level place.left place.state t at e in
-    unknown level front place t rest at (λ x. not (begins_type x)) begins_type r b refuses u.1 (and-right (fits_first level sought.Type place.left) _ u.0)
+    unknown limits level front place t rest at begins_no_type begins_type r i b refuses u.1 (and-right (fits_first level sought.Type place.left) _ u.0)
     (type-fits level place.left place.state (reached-good level front whole at_start place (whole-good level) r)
     (and-left (fits_first level sought.Type place.left) _ u.0))
-cause-type limits level front place _ _ at r b (IsCause.passed t rest p f c g i) e =
-    let a : false ≡ true = sym (limit-not tells-type (λ w x. refl) (λ x. refl) (λ x. refl) limits place.state (settled p.left p.state).state t f i) ∙ ap tells-type e in absurd cc
-cause-type limits level front place _ _ at r b (IsCause.cut h) e = absurd cc
-cause-type limits level front place _ _ at r b (IsCause.passed_last last f g i) e =
-    let a : false ≡ true = sym (limit-not tells-type (λ w x. refl) (λ x. refl) (λ x. refl) limits place.state last place.state.last f i) ∙ ap tells-type e in absurd cc
+cause-type limits level front place _ _ at r i b (IsCause.passed t rest p f c g j) e =
+    let a : false ≡ true = sym (limit-not tells-type (λ w x. refl) (λ x. refl) (λ x. refl) limits place.state (settled p.left p.state).state t f j) ∙ ap tells-type e in absurd cc
+cause-type limits level front place _ _ at r i b (IsCause.cut h) e = absurd cc
+cause-type limits level front place _ _ at r i b (IsCause.passed_last last f g j) e =
+    let a : false ≡ true = sym (limit-not tells-type (λ w x. refl) (λ x. refl) (λ x. refl) limits place.state last place.state.last f j) ∙ ap tells-type e in absurd cc
 
-pub tells-unknown-op : TellsUnknownOp
-tells-unknown-op limits level ts at e =
+pub told-unknown-op : (limits : TextLimits) (level : Level) (ts : List Tok) (at : ℕ)
+    → parsed limits level ts ≡ Err (fault.UnknownOp at) → IsUnknown limits level ts at (names_no_op level) (names_form level)
+told-unknown-op limits level ts at e =
     let h = names-first-fault limits level ts (fault.UnknownOp at) e in
-    subst (λ (x : List Tok). IsUnknown level x at (names_no_op level) (names_op level)) (sym h.parts)
-    (cause-op limits level h.front h.place h.rest (fault.UnknownOp at) at h.leads h.fits h.cause refl)
+    subst (λ (x : List Tok). IsUnknown limits level x at (names_no_op level) (names_form level)) (sym h.parts)
+    (cause-op limits level h.front h.place h.rest (fault.UnknownOp at) at h.leads h.within h.fits h.cause refl)
 
 pub tells-unknown-type : TellsUnknownType
 tells-unknown-type limits level ts at e =
     let h = names-first-fault limits level ts (fault.UnknownType at) e in
-    subst (λ (x : List Tok). IsUnknown level x at (λ t. not (begins_type t)) begins_type) (sym h.parts)
-    (cause-type limits level h.front h.place h.rest (fault.UnknownType at) at h.leads h.fits h.cause refl)
+    subst (λ (x : List Tok). IsUnknown limits level x at begins_no_type begins_type) (sym h.parts)
+    (cause-type limits level h.front h.place h.rest (fault.UnknownType at) at h.leads h.within h.fits h.cause refl)

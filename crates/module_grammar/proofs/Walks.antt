@@ -45,7 +45,7 @@ passes : (limit n : ℕ) (f : GrammarFault) (rest : Option GrammarFault) → n �
     → cond (nat_lt limit n) (Some f) rest ≡ None
 passes limit n f rest h e = rw (le-ltb limit n h) e
 
-none-passed : (limits : TextLimits) (s now : State) (t : Tok) → IsWithin limits now → limit_passed limits s now t ≡ None
+pub none-passed : (limits : TextLimits) (s now : State) (t : Tok) → IsWithin limits now → limit_passed limits s now t ≡ None
 none-passed limits s now t h =
     passes _ _ _ _ h.operations (passes _ _ _ _ h.functions (passes _ _ _ _ h.depth (passes _ _ _ _ h.values refl)))
 
@@ -64,7 +64,7 @@ within-now limits s now t e =
     let d = not-past limits.values now.counted _ _ c.1 in
     record { operations = a.0; functions = b.0; depth = c.0; values = d.0 }
 
-within-before : (limits : TextLimits) (s s' : State) → Grew s s' → IsWithin limits s' → IsWithin limits s
+pub within-before : (limits : TextLimits) (s s' : State) → Grew s s' → IsWithin limits s' → IsWithin limits s
 within-before limits s s' g h = record {
   operations = omega (arith, g.begun, h.operations);
   functions = omega (arith, g.functions, h.functions);
@@ -176,7 +176,7 @@ pub begins-on : (level : Level) (k : List Symbol) (s : State) (t : Tok) (front :
 begins-on level k s t front p e b =
     begins-before (grammar level) k s t front p e (b.0, b.1, settle-leads level p.left p.state (front ++ b.0) b.1 b.2)
 
-begins-from : (level : Level) (k : List Symbol) (s : State) (t : Tok) (front : List Tok) (p : Place State) → step (grammar level) k s t ≡ Some p
+pub begins-from : (level : Level) (k : List Symbol) (s : State) (t : Tok) (front : List Tok) (p : Place State) → step (grammar level) k s t ≡ Some p
     → Begins (grammar level) k s (t ∷ front) → Begins (grammar level) (settled p.left p.state).left (next_state level p) front
 begins-from level k s t front p e b =
     let c = begins-after (grammar level) k s t front p e b in (

@@ -24,7 +24,7 @@ use Rattle.module_grammar.specs.declared.state.Entry.{Entry}
 use Rattle.module_grammar.specs.declared.state.Entry.TheVariants as entry
 use Rattle.module_grammar.specs.Tokens.{kind_among, is_number_kind, type_of}
 use Rattle.module_grammar.specs.State.{at_start, module_of, count_of, with_names, up, does}
-use Rattle.module_grammar.specs.Rules.{grammar, is_of, is_name, is_value_name, is_byte, is_one, are_new, lines, may_end}
+use Rattle.module_grammar.specs.Rules.{grammar, kinds_at, is_of, is_name, is_value_name, is_byte, is_one, are_new, lines, may_end}
 use Rattle.module_grammar.specs.Texts.{whole, BeginsText}
 
 -- ---- limits
@@ -341,31 +341,47 @@ AcceptsExactly = (limits : TextLimits) (level : Level) (ts : List Tok) (m : Modu
 abbrev pub names_no_op : Level → Tok → Bool
 names_no_op level t = is_name t.kind && not (has_row level t.text)
 
--- the token is the name of an operation of the level
-abbrev pub names_op : Level → Tok → Bool
-names_op level t = is_name t.kind && has_row level t.text
+-- the token is the name of an operation that stands in the bodies of the level
+abbrev pub names_form : Level → Tok → Bool
+names_form level t = is_name t.kind && is_some (kind_among (kinds_at level) t.text)
+
+abbrev pub begins_no_type : Tok → Bool
+begins_no_type t = not (begins_type t)
+
+-- the tokens lead to a place, and what they begin is within the limits
+abbrev pub LeadsWithin : TextLimits → Level → List Tok → Type 0
+LeadsWithin limits level front = (place : Place State) × (reached level whole at_start front ≡ Some place) × IsWithin limits place.state
 
 -- Why something is unknown: at this place stands a wrong token, with which no text of the level goes on behind what stands
 -- before it, and a right one, put in its place, goes on there.
-pub record IsUnknown (level : Level) (ts : List Tok) (at : ℕ) (wrong right : Tok → Bool) : Type 0 where
+pub record IsUnknown (limits : TextLimits) (level : Level) (ts : List Tok) (at : ℕ) (wrong right : Tok → Bool) : Type 0 where
   pub front : List Tok
   pub token : Tok
   pub rest : List Tok
   pub parts : ts ≡ front ++ token ∷ rest
   pub here : token.at ≡ at
   pub is_wrong : wrong token ≡ true
+  pub within : LeadsWithin limits level front
   pub fits : BeginsText level front
   pub refused : BeginsText level (front ++ token ∷ []) → ⊥
   pub other : Tok
   pub is_right : right other ≡ true
   pub goes_on : BeginsText level (front ++ other ∷ [])
 
--- UnknownOp is answered at a name that no operation of the level has, and only where the name of one would fit
+-- UnknownOp is answered exactly at a name that no operation of the level has, where that of one would fit
 abbrev pub TellsUnknownOp : Type 0
 TellsUnknownOp = (limits : TextLimits) (level : Level) (ts : List Tok) (at : ℕ)
-    → parsed limits level ts ≡ Err (fault.UnknownOp at) → IsUnknown level ts at (names_no_op level) (names_op level)
+    → (parsed limits level ts ≡ Err (fault.UnknownOp at)) ↔ IsUnknown limits level ts at (names_no_op level) (names_form level)
 
 -- UnknownType is answered at a token that begins no type, and only where one that begins a type would fit
 abbrev pub TellsUnknownType : Type 0
 TellsUnknownType = (limits : TextLimits) (level : Level) (ts : List Tok) (at : ℕ)
-    → parsed limits level ts ≡ Err (fault.UnknownType at) → IsUnknown level ts at (λ t. not (begins_type t)) begins_type
+    → parsed limits level ts ≡ Err (fault.UnknownType at) → IsUnknown limits level ts at begins_no_type begins_type
+
+-- It is answered wherever a token that begins a type would fit, but not each name, as within the brackets of a dictionary, at
+-- any token that begins none and is no number, which may be that of a name's values.
+abbrev pub FindsUnknownType : Type 0
+FindsUnknownType = (limits : TextLimits) (level : Level) (ts : List Tok) (at : ℕ)
+    → (u : IsUnknown limits level ts at begins_no_type begins_type) → is_number_kind u.token.kind ≡ false
+    → (name : Tok) → is_name name.kind ≡ true → (BeginsText level (u.front ++ name ∷ []) → ⊥)
+    → parsed limits level ts ≡ Err (fault.UnknownType at)

@@ -1,5 +1,5 @@
 //! The laws of the grammar, as the contracts of functions that do nothing.
-ghost use Rattle.module_grammar.specs.Faults.{AcceptsExactly, NamesFirstFault, TellsUnknownOp, TellsUnknownType};
+ghost use Rattle.module_grammar.specs.Faults.{AcceptsExactly, NamesFirstFault, TellsUnknownOp, TellsUnknownType, FindsUnknownType};
 ghost use Rattle.module_grammar.specs.Texts.{ReadsEachText, ReadsTextsAlone, HasOneModule, FindsFirstFault};
 
 /// Every text of the grammar is read, as the module that it stands for.
@@ -32,7 +32,7 @@ pub fn names_first_fault()
     ensures { NamesFirstFault }
 {}
 
-/// Where an operation is answered as unknown, the name of one of the level would fit.
+/// An operation is answered as unknown exactly at a name that none of the level has, where the name of one would fit.
 pub fn tells_unknown_op()
     ensures { TellsUnknownOp }
 {}
@@ -40,4 +40,9 @@ pub fn tells_unknown_op()
 /// Where a type is answered as unknown, a token that begins one would fit.
 pub fn tells_unknown_type()
     ensures { TellsUnknownType }
+{}
+
+/// A token that begins no type is answered as an unknown type where one that begins a type would fit, but not each name.
+pub fn finds_unknown_type()
+    ensures { FindsUnknownType }
 {}

@@ -36,8 +36,8 @@ mod words;
 
 pub use faults::{GrammarFault, Limited, TextLimits};
 pub use laws::{
-    accepts_exactly, finds_first_fault, has_one_module, names_first_fault, reads_each_text,
-    reads_texts_alone, tells_unknown_op, tells_unknown_type,
+    accepts_exactly, finds_first_fault, finds_unknown_type, has_one_module, names_first_fault,
+    reads_each_text, reads_texts_alone, tells_unknown_op, tells_unknown_type,
 };
 pub use reader::read;
 pub use sought::Sought;

@@ -16,7 +16,7 @@ use Rattle.module_grammar.specs.State.{with_else}
 use Rattle.module_grammar.specs.Tokens.{is_name_of, kind_named}
 use Rattle.module_grammar.specs.Rules.{is_of, is_name, form, kinds_at, forms_then, doing}
 use Rattle.read_forms.proofs.Triples.{Owes, EachOwes}
-use Rattle.read_forms.proofs.Scopes.{and-left, and-right}
+use Rattle.module_grammar.proofs.Ends.{and-left, and-right}
 use Rattle.read_forms.proofs.Outcomes.{triples}
 use Rattle.read_forms.proofs.OneOp.{IsKind}
 use Rattle.read_forms.proofs.Arithmetic.{FormOwes, binary-owes, select-owes, compare-owes, cast-owes, constant-owes}

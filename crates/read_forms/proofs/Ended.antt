@@ -14,7 +14,8 @@ use Rattle.ir_forms.specs.Ops.{kind_of}
 use Rattle.module_grammar.specs.State.{made, is_yield, is_ending, is_ending_op, ends_in, terminator_of, unless_ended, left_out, as_reduce, last_as_reduce, body_ops, with_made, as_number, up}
 use Rattle.module_grammar.proofs.Runs.{by_test}
 use Rattle.mlir_print.specs.Printable.{Has, HasForm, HaveTypes, IsYield, IsEnded, ends_with, Scope, numbers, NumberOn, param_types}
-use Rattle.read_forms.proofs.Scopes.{AreSeenOrNot, and-left, and-right}
+use Rattle.module_grammar.proofs.Ends.{and-left, and-right}
+use Rattle.read_forms.proofs.Scopes.{AreSeenOrNot}
 use Rattle.read_forms.proofs.Shows.{Node, Piece, Shows, has, shows-both}
 
 -- ---- terminators that are made

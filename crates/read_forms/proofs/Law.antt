@@ -12,7 +12,7 @@ use Rattle.mlir_print.specs.Printable.{Part, Prints, Scope, IsPrintableFunc, Are
 use Rattle.read_forms.specs.Known.{knows_all, knows_all_in, all_true, all_know, has_no_unknown}
 use Rattle.read_forms.specs.Reads.{ReadsPrintable}
 use Rattle.read_forms.proofs.Triples.{met}
-use Rattle.read_forms.proofs.Scopes.{and-left, and-right}
+use Rattle.module_grammar.proofs.Ends.{and-left, and-right}
 use Rattle.read_forms.proofs.Shows.{Piece, shown-prints, region-knows}
 use Rattle.read_forms.proofs.Outcomes.{FuncShows, FuncsShow, triples}
 use Rattle.read_forms.proofs.Sound.{are-sound}

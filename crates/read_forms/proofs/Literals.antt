@@ -13,7 +13,7 @@ use Rattle.module_grammar.specs.State.{does, is_true, literal}
 use Rattle.module_grammar.specs.Tokens.{is_up_to, below, number_of, number_of_kind, is_number_kind}
 use Rattle.module_grammar.specs.Rules.{is_of}
 use Rattle.module_grammar.proofs.Runs.{by_test}
-use Rattle.read_forms.proofs.Scopes.{and-right}
+use Rattle.module_grammar.proofs.Ends.{and-right}
 use Rattle.read_forms.proofs.Outcomes.{NumberRead}
 use Rattle.read_forms.proofs.Words.{Lines}
 

@@ -33,7 +33,8 @@ use Rattle.module_grammar.specs.Tokens as tokens
 use Rattle.module_grammar.specs.Rules.{is_of, is_type_kind, token, comma, arrow, paren, close_paren, operand, indices, arguments, typed, typed_as, part, doing}
 use Rattle.mlir_print.specs.Printable.{AreBytes, IsWritten, IsWrittenMemref, Has, HasForm, IsYield, payloads, cell_type}
 use Rattle.read_forms.proofs.Triples.{Owes}
-use Rattle.read_forms.proofs.Scopes.{seen_of, AreSeenOrNot, both-seen, and-right}
+use Rattle.module_grammar.proofs.Ends.{and-right}
+use Rattle.read_forms.proofs.Scopes.{seen_of, AreSeenOrNot, both-seen}
 use Rattle.read_forms.proofs.Shows.{Piece, Shows}
 use Rattle.read_forms.proofs.Outcomes.{NumberRead, TypesRead, UsesRead, Finishes, with_dict, with_uses, Rest, rest_of, scope_at, opened, triples}
 use Rattle.read_forms.proofs.WrittenTypes.{type-written}

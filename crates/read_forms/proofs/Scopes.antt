@@ -1,5 +1,5 @@
 -- The values of names: what a use means, and how values are numbered.
-use Rattle.std.proofs.Common.{◌≡◌, ◌≤◌, ◌<◌, ◌⊎◌, inl, inr, ℕ, zero, suc, ◌+◌, Bool, true, false, cond, ◌&&◌, List, [], ◌∷◌, ◌++◌, length, nat_lt, Option, Some, None, refl, sym, ap, ◌∙◌, subst, arith, append_assoc, le_refl, lt-ltb, ltb-true}
+use Rattle.std.proofs.Common.{◌≡◌, ◌≤◌, ◌<◌, ◌⊎◌, inl, inr, ℕ, zero, suc, ◌+◌, Bool, true, false, cond, List, [], ◌∷◌, ◌++◌, length, nat_lt, Option, Some, None, refl, sym, ap, ◌∙◌, subst, arith, append_assoc, lt-ltb, ltb-true}
 use Rattle.std.specs.Prelude.{⊤}
 use Rattle.std.specs.List.{Contains}
 use Rattle.std.specs.Str.{bytes_eq}
@@ -12,6 +12,8 @@ use Rattle.module_grammar.specs.State.{unknown, value, number_up, first_of, part
 use Rattle.module_grammar.proofs.Runs.{by_test}
 use Rattle.mlir_print.specs.Printable.{numbers, NumberOn, AreSeen}
 use Rattle.read_forms.specs.Known.{is_known, all_known}
+use Rattle.module_grammar.proofs.Ends.{and-left, and-right}
+use Rattle.module_grammar.proofs.Grows.{names-grew}
 
 -- ---- uses
 
@@ -34,14 +36,6 @@ both-seen seen (v ∷ vs) ws a b = (a.0, both-seen seen vs ws a.1 b)
 is-seen : (seen : List ℕ) (v : ValueNo) → IsSeenOrNot seen v → is_known v ≡ true → Contains seen v.0
 is-seen seen v (inl e) k = let a : true ≡ false = sym k ∙ ap is_known e in absurd cc
 is-seen seen v (inr c) k = c
-
-pub and-left : (a b : Bool) → a && b ≡ true → a ≡ true
-and-left true b e = refl
-and-left false b e = absurd cc
-
-pub and-right : (a b : Bool) → a && b ≡ true → b ≡ true
-and-right true b e = e
-and-right false b e = absurd cc
 
 -- known operands are visible
 pub are-seen : (seen : List ℕ) (vs : List ValueNo) → AreSeenOrNot seen vs → all_known vs ≡ true → AreSeen seen vs
@@ -170,10 +164,6 @@ named-more n m xs x c m' a e f g u h =
           (subst (λ (y : ℕ). NumberOn y (values_of_name x c)) (omega (arith, b.1, weight-is xs)) (u small))))),
       omega (arith, g small, b.1, w),
     )
-
-names-grew : (ns : List Name) (n : ℕ) → n ≤ with_names n ns
-names-grew [] n = le_refl n
-names-grew (x ∷ ns) n = let h = names-grew ns (up n (count_of x.count)) in omega (arith, h)
 
 with-names-is : (xs : List Name) (c : ℕ) → with_names c xs < 4294967295 → with_names c xs ≡ c + weight xs
 with-names-is [] c h = omega arith

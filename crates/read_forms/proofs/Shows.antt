@@ -12,7 +12,8 @@ use Rattle.ir_forms.specs.declared.types.Ty.{Ty}
 use Rattle.ir_forms.specs.Ops.{kind_of}
 use Rattle.mlir_print.specs.Printable.{Has, HasForm, IsEnded, Scope, numbers, NumberOn, AreSeen, defining, Part, Prints, types_of, param_types}
 use Rattle.read_forms.specs.Known.{all_known, all_true, op_knows, region_knows, knows_all, knows_all_in}
-use Rattle.read_forms.proofs.Scopes.{AreSeenOrNot, are-seen, and-left, and-right}
+use Rattle.module_grammar.proofs.Ends.{and-left, and-right}
+use Rattle.read_forms.proofs.Scopes.{AreSeenOrNot, are-seen}
 
 abbrev pub Node : Type 0
 Node = Op-F Op Region

@@ -17,7 +17,7 @@ use Rattle.module_grammar.specs.State.{does, entry_number, numbered_op, numbered
 use Rattle.module_grammar.specs.Tokens.{type_of, payload_of}
 use Rattle.module_grammar.specs.Rules.{lines, type_then, brackets_then, is_of, is_type_kind, part, doing, dict}
 use Rattle.read_forms.proofs.Triples.{Owes, EachOwes, Reached}
-use Rattle.read_forms.proofs.Scopes.{and-right}
+use Rattle.module_grammar.proofs.Ends.{and-right}
 use Rattle.read_forms.proofs.Outcomes.{TypeRead, TypesRead, NumberRead, with_types, with_dict, triples}
 use Rattle.read_forms.proofs.WrittenTypes.{type-written, payload-written}
 

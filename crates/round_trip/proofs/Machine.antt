@@ -26,6 +26,7 @@ use Rattle.round_trip.proofs.Counting.{counts_values}
 use Rattle.round_trip.proofs.Named.{CountsNone}
 use Rattle.round_trip.proofs.Docs.{Stops, Plain}
 use Rattle.round_trip.proofs.Acts.{core-does, is_printed, param-names-bare}
+use Rattle.module_grammar.proofs.Runs.{by_test}
 
 -- ---- what a word is of
 
@@ -172,14 +173,10 @@ first-hash : (ls : List Line) (c : Core) (w : Word) → is_hash_name w.0 ≡ tru
 first-hash [] c w h = refl
 first-hash (l ∷ ls) c w h = rw h (first-hash ls c w h)
 
-by_hash : {X : Type 0} (b : Bool) → (b ≡ true → X) → (b ≡ false → X) → X
-by_hash true y n = y refl
-by_hash false y n = n refl
-
 pub line-core : (level : Level) (r : Rule) (l : Line) (s : State) (t : Tok)
     → line_on level r (core s) (spoken t) ≡ Some l → line_at (grammar level) r s t ≡ Some l
 line-core level r l s t e =
-    by_hash (is_hash_name t.kind)
+    by_test (is_hash_name t.kind)
     (λ h. let a : None ≡ Some l = sym (first-hash (lines level r) (core s) (spoken t) h) ∙ e in absurd cc)
     (λ n. sym (first-core level (lines level r) s t n) ∙ e)
 
@@ -204,7 +201,7 @@ misses-core level r s t e =
 pub fits-core : (level : Level) (a : Class) (s : State) (t : Tok) → fits a (core s) (spoken t) ≡ true
     → (is_of a t && allows a s t) ≡ true
 fits-core level a s t e =
-    by_hash (is_hash_name t.kind)
+    by_test (is_hash_name t.kind)
     (λ h. let f : false ≡ true = sym (rw h refl) ∙ e in absurd cc)
     (λ n. sym (accepts-core a s t n) ∙ e)
 

@@ -16,6 +16,7 @@ use Rattle.module_grammar.specs.Rules.{grammar, lines}
 use Rattle.module_grammar.specs.Texts.{whole}
 use Rattle.round_trip.proofs.Weights.{words, weight, words-append, weight-append, all_lines, both, chosen, is_light}
 use Rattle.round_trip.proofs.Counting.{is_results, pending, in_order, counts_values, lets, pending-append, order-append, named, names, act-names}
+use Rattle.module_grammar.proofs.Ends.{and-both}
 
 -- no name is given a number of values on the way
 abbrev pub CountsNone : (level : Level) {k : List Symbol} {s : State} {ts : List Tok} {s' : State} → Leads (grammar level) k s ts s' → Type 0
@@ -52,11 +53,6 @@ all-checked level _ = refl
 abbrev Ends : List Symbol → State → List Tok → State → Type 0
 Ends k s ts s' = s'.counted + words k ≤ (named (pending false k) s + weight names k) + length ts
 
-and-true : (a b : Bool) → a ≡ true → b ≡ true → a && b ≡ true
-and-true true true e f = refl
-and-true true false e f = absurd cc
-and-true false b e f = absurd cc
-
 not-true : (b : Bool) → not b ≡ true → b ≡ false
 not-true true e = absurd cc
 not-true false e = refl
@@ -86,7 +82,7 @@ one-line r l k s t ts s' checked order orders again =
     let g = both (is_light names l) (keeps_order (is_results r) l.after) checked in
     let o = kept (is_results r) l.after (pending false k) g.1 order in
     let small = leb-true (weight names l.after) (suc (words l.after)) g.0 in
-    let h = again (order-append l.after k false ∙ and-true (in_order (pending false k) l.after) (in_order false k) o.0 orders) in
+    let h = again (order-append l.after k false ∙ and-both (in_order (pending false k) l.after) (in_order false k) o.0 orders) in
     let many = words-append l.after k in
     let heavy = weight-append names l.after k in
     let same : named (pending false (l.after ++ k)) (record s { last = t }) ≡ named (is_results r && pending false k) s =

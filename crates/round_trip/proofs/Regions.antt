@@ -1,5 +1,5 @@
 -- A region is read as what was printed: its operations, in the scope of its parameters.
-use Rattle.std.proofs.Common.{◌≡◌, ℕ, ◌+◌, List, [], ◌∷◌, ◌++◌, map, take, length, Some, None, refl, sym, ap, subst, ◌∙◌, append_assoc}
+use Rattle.std.proofs.Common.{◌≡◌, ℕ, ◌+◌, List, [], ◌∷◌, ◌++◌, map, take, length, None, refl, sym, ap, subst, ◌∙◌, append_assoc}
 use Rattle.std.proofs.Math.Seq.{take-append_seam}
 use Rattle.std.proofs.lemmas.List.{map-append}
 use Rattle.mlir_lex.specs.declared.kinds.TokenKind.TheVariants as kind
@@ -34,6 +34,7 @@ use Rattle.round_trip.proofs.Segments.{mark}
 use Rattle.round_trip.proofs.Shapes.{NextIs}
 use Rattle.round_trip.proofs.Scopes.{IsGood, Grown, visible-more, names-of-params, values-of-params}
 use Rattle.round_trip.proofs.Bodies.{Goes}
+use Rattle.module_grammar.proofs.Lists.{last_pushed}
 
 -- ---- the state within a body
 
@@ -85,11 +86,6 @@ LinesGo level m os s e =
 
 -- ---- lists
 
-last-pushed : (xs : List Outer) (x : Outer) → last_of (xs ++ x ∷ []) ≡ Some x
-last-pushed [] x = refl
-last-pushed (y ∷ []) x = refl
-last-pushed (y ∷ z ∷ xs) x = last-pushed (z ∷ xs) x
-
 without-pushed : (xs : List Outer) (x : Outer) → without_last (xs ++ x ∷ []) ≡ xs
 without-pushed [] x = refl
 without-pushed (y ∷ []) x = refl
@@ -130,7 +126,7 @@ closed-is : (a : Around) (s e : Scope) (x : OpenOp) (r : Region) (after : ℕ) (
     → let c : Core = record (standing (with_ops (inside a s x r) (ops_of r)) e after) { passing = p } in
     closed_into (last_of c.outer) c ≡ record (during a (record { next = e.next; seen = s.seen }) after (with_region x r)) { passing = p }
 closed-is a s e x r after p more grown kept =
-    rw last-pushed (rw (kept.same, kept.none, without-pushed, region-again r) (rw (seen-again s.seen more e.seen grown) refl))
+    rw last_pushed (rw (kept.same, kept.none, without-pushed, region-again r) (rw (seen-again s.seen more e.seen grown) refl))
 
 opened-is : (a : Around) (s : Scope) (x : OpenOp) (r : Region) (begun : ℕ) (p : Passing) → x.params ≡ map param_of (params_of r)
     → opened (record (during a (record { next = s.next + length (value_params (params_of r)); seen = s.seen }) begun x) { passing = p })

@@ -1,28 +1,16 @@
 -- What printed strings and symbols say: the bytes that they were written for.
-use Rattle.std.proofs.Common.{◌≡◌, ◌<◌, ℕ, zero, suc, ◌/◌, Bool, true, false, ◌&&◌, ◌||◌, ◌==◌, nat_lt, eqb, List, [], ◌∷◌, ◌++◌, Option, Some, None, is_none, refl, sym, ap, subst, ◌∙◌, append_assoc, arith, eqb-true}
-use Rattle.std.proofs.lemmas.Bool.Decides.{nat_tests}
+use Rattle.std.proofs.Common.{◌≡◌, ◌<◌, ℕ, ◌/◌, Bool, true, false, ◌&&◌, ◌||◌, ◌==◌, nat_lt, List, [], ◌∷◌, ◌++◌, Option, Some, None, is_none, refl, sym, ap, subst, ◌∙◌, append_assoc, eqb-true}
 use Rattle.mlir_lex.specs.declared.kinds.TokenKind.TheVariants as kind
 use Rattle.module_grammar.specs.Tokens.{said, string_of, symbol_of_kind, short_escape, hex_byte}
 use Rattle.mlir_print.specs.Printable.{AreBytes}
 use Rattle.mlir_print.specs.Tokens.{hex_digit, escaped, all_escaped, quoted}
+use Rattle.mlir_print.proofs.Words.{passes}
 
 -- ---- one byte
-
-abbrev all_below : (ℕ → Bool) → ℕ → Bool
-all_below test zero = true
-all_below test (suc n) = test n && all_below test n
 
 and-both : (a b : Bool) → a && b ≡ true → (a ≡ true) × (b ≡ true)
 and-both true b e = (refl, e)
 and-both false b e = absurd cc
-
-passes : (test : ℕ → Bool) (n d : ℕ) → all_below test n ≡ true → d < n → test d ≡ true
-passes test zero d all within = absurd (omega arith)
-passes test (suc n) d all within = by_case (passes test n d (and-both (test n) (all_below test n) all).1) (eqb d n) refl
-  where
-    by_case : ((d < n) → test d ≡ true) → (same : Bool) → eqb d n ≡ same → test d ≡ true
-    by_case before true is = ap test (eqb-true d n is) ∙ (and-both (test n) (all_below test n) all).0
-    by_case before false is = before (grind (arith, nat_tests))
 
 -- a byte's two digits say it, and the first is no escape of its own
 abbrev is_said : ℕ → Bool

@@ -26,7 +26,7 @@ use Rattle.round_trip.proofs.Segments.{mark}
 use Rattle.module_grammar.specs.Rules.{block_param, type_of_param, part, line as line_of}
 use Rattle.mlir_print.specs.Forms.{param}
 use Rattle.round_trip.proofs.Params.{IsFresh, firsts, seconds, with_params, param-is, param-fits, fresh-more, params-none, params-more}
-use Rattle.round_trip.proofs.ValueOperands.{last-given}
+use Rattle.module_grammar.proofs.Lists.{last_given}
 
 -- ---- parameters of a function
 
@@ -44,7 +44,7 @@ module _ {level : Level} {m : Module} where
       (word refl (a-type p.1 written (λ y.
       let all : Core = with_typed c (p ∷ []) in
       let given : last_typed (c.op.params ++ param_of (p.0, ty.Untyped) ∷ []) (first_type (c.read ++ p.1 ∷ [])) ≡ c.op.params ++ param_of p ∷ [] =
-      last-given c.op.params (param_of (p.0, ty.Untyped)) (first_type (c.read ++ p.1 ∷ []))
+      last_given c.op.params (param_of (p.0, ty.Untyped)) (first_type (c.read ++ p.1 ∷ []))
       ∙ ap (λ (l : List Ty). c.op.params ++ param_of (p.0, first_type (l ++ p.1 ∷ [])) ∷ []) none in
       act refl (subst (λ (x : Core). Runs level m k x ws) (sym (ap (λ (xs : List Param). record all { passing = y; op = record (all.op) { params = xs } }) given)) (runs y))))))
 
@@ -123,7 +123,7 @@ module _ {level : Level} {m : Module} where
       (word refl (a-type p.1 written (λ y.
       let all : Core = with_block c (p ∷ []) in
       let given : last_typed (c.body.params ++ param_of (p.0, ty.Untyped) ∷ []) (first_type (c.read ++ p.1 ∷ [])) ≡ c.body.params ++ param_of p ∷ [] =
-      last-given c.body.params (param_of (p.0, ty.Untyped)) (first_type (c.read ++ p.1 ∷ []))
+      last_given c.body.params (param_of (p.0, ty.Untyped)) (first_type (c.read ++ p.1 ∷ []))
       ∙ ap (λ (l : List Ty). c.body.params ++ param_of (p.0, first_type (l ++ p.1 ∷ [])) ∷ []) none in
       act refl (subst (λ (x : Core). Runs level m k x ws) (sym (ap (λ (xs : List Param). record all { passing = y; body = record (all.body) { params = xs } }) given)) (runs y)))))))
 

@@ -21,6 +21,7 @@ use Rattle.round_trip.proofs.Segments.{mark, a-use}
 use Rattle.ir_forms.specs.declared.types.ValTy.TheVariants as val
 use Rattle.module_grammar.specs.Rules.{value_operand as value_symbols}
 use Rattle.round_trip.proofs.Params.{IsFresh, firsts, seconds, a-param, fresh-more}
+use Rattle.module_grammar.proofs.Lists.{last_given}
 
 abbrev pub with_values : Core → List (ValueNo × Ty) → List ValueNo → List Ty → Core
 with_values c ps vs ts = record c {
@@ -28,11 +29,6 @@ with_values c ps vs ts = record c {
   next = c.next + length ps;
   read = [];
 }
-
-pub last-given : (xs : List Param) (x : Param) (t : Ty) → last_typed (xs ++ x ∷ []) t ≡ xs ++ record x { ty = t } ∷ []
-last-given [] x t = refl
-last-given (y ∷ []) x t = refl
-last-given (y ∷ z ∷ xs) x t = ap (λ (l : List Param). y ∷ l) (last-given (z ∷ xs) x t)
 
 payload-is : (t : Ty) → first_type (payload_types t) ≡ payload t
 payload-is (ty.Value (val.Int w)) = refl
@@ -70,7 +66,7 @@ module _ {level : Level} {m : Module} where
       a-use v _ f.0 refl (λ q. word refl (a-param _ _ p.0 e h fresh (λ x. word refl (a-type t written (λ y.
       let all : Core = with_values c (p ∷ []) (v ∷ []) (t ∷ []) in
       let given : last_typed (c.op.params ++ param_of (p.0, ty.Untyped) ∷ []) (first_type (payload_types (first_type (c.read ++ t ∷ [])))) ≡ c.op.params ++ param_of p ∷ [] =
-      last-given c.op.params (param_of (p.0, ty.Untyped)) (first_type (payload_types (first_type (c.read ++ t ∷ []))))
+      last_given c.op.params (param_of (p.0, ty.Untyped)) (first_type (payload_types (first_type (c.read ++ t ∷ []))))
       ∙ ap (λ (u : Ty). c.op.params ++ param_of (p.0, u) ∷ []) (ap (λ (l : List Ty). first_type (payload_types (first_type (l ++ t ∷ [])))) none ∙ payload-is t ∙ sym typed) in
       let wrote : c.op.written ++ (c.read ++ t ∷ []) ≡ c.op.written ++ t ∷ [] = ap (λ (l : List Ty). c.op.written ++ (l ++ t ∷ [])) none in
       act refl (act refl (subst (λ (x : Core). Runs level m k x ws)

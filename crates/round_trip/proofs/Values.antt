@@ -1,5 +1,5 @@
 -- Printed names of values: each is found as the value that it was written for, and a new one is no name that is visible.
-use Rattle.std.proofs.Common.{◌≡◌, ◌<◌, ◌≤◌, ℕ, zero, suc, ◌+◌, ◌-◌, ◌^◌, Bool, true, false, ◌==◌, List, [], ◌∷◌, ◌++◌, map, length, slice_index_or, Contains, decimal, refl, sym, ap, subst, ◌∙◌, arith, bytes_eq}
+use Rattle.std.proofs.Common.{◌≡◌, ◌<◌, ◌≤◌, ℕ, zero, suc, ◌+◌, ◌-◌, ◌^◌, true, false, ◌==◌, List, [], ◌∷◌, ◌++◌, map, length, slice_index_or, Contains, decimal, refl, sym, ap, subst, ◌∙◌, arith, bytes_eq}
 use Rattle.std.proofs.lemmas.Bool.Decides.{nat_tests}
 use Rattle.std.proofs.lemmas.Slice.Eq.{bytes_eq-Decides}
 use Rattle.std.proofs.lemmas.Fmt.{decimal_injective}
@@ -11,6 +11,7 @@ use Rattle.module_grammar.specs.State.{resolved, is_named, value, number_up}
 use Rattle.mlir_print.specs.Tokens.{value_name}
 use Rattle.mlir_print.specs.Printable.{AreSeen}
 use Rattle.round_trip.proofs.Core.{fresh_name}
+use Rattle.module_grammar.proofs.Runs.{by_test}
 
 -- ---- names
 
@@ -40,10 +41,6 @@ same-text u v e =
     let same : u ≡ v = ap value e in
     (bytes_eq-Decides (name_text u) (name_text v)).1 (ap name_text same)
 
-by_case : {X : Type 0} (b : Bool) → (b ≡ true → X) → (b ≡ false → X) → X
-by_case true y n = y refl
-by_case false y n = n refl
-
 -- ---- what is visible
 
 abbrev pub AreSmall : List ℕ → Type 0
@@ -66,7 +63,7 @@ found-at : (ns : List ℕ) (v : ValueNo) → AreSmall ns → v.0 < 2 ^ 32 - 1 �
     → resolved (map shown ns) (name_text v) ≡ v
 found-at [] v small i k h e = absurd (omega arith)
 found-at (x ∷ xs) v small i k h e =
-    by_case (bytes_eq (name_text (value x)) (name_text v))
+    by_test (bytes_eq (name_text (value x)) (name_text v))
     (λ y. rw y (ap value (text-value (value x) v small.0 i y)))
     (λ n. rw n (later x xs v k h e n (found-at xs v small.1 i)))
 
@@ -102,14 +99,14 @@ new-name n [] v b h i = refl
 new-name n (x ∷ xs) v b h i =
     let c = b.0 in
     let other : bytes_eq x.text (name_text v) ≡ false =
-    rw c.1 (by_case (bytes_eq (name_text c.0) (name_text v)) (λ y. let e : c.0.0 ≡ v.0 = text-value c.0 v (let d = c.2 in omega arith) i y in absurd (let d = c.2 in omega arith)) (λ f. f)) in
+    rw c.1 (by_test (bytes_eq (name_text c.0) (name_text v)) (λ y. let e : c.0.0 ≡ v.0 = text-value c.0 v (let d = c.2 in omega arith) i y in absurd (let d = c.2 in omega arith)) (λ f. f)) in
     rw (other, new-name n xs v b.1 h i) refl
 
 pub next-up : (n : ℕ) → n < 2 ^ 32 - 1 → number_up n 1 ≡ n + 1
 next-up n h = omega arith
 
 pub other-text : (u v : ValueNo) → u.0 < 2 ^ 32 - 1 → v.0 < 2 ^ 32 - 1 → (u.0 ≡ v.0 → ⊥) → bytes_eq (name_text u) (name_text v) ≡ false
-other-text u v h i other = by_case (bytes_eq (name_text u) (name_text v)) (λ y. absurd (other (text-value u v h i y))) (λ f. f)
+other-text u v h i other = by_test (bytes_eq (name_text u) (name_text v)) (λ y. absurd (other (text-value u v h i y))) (λ f. f)
 
 pub below-left : (n : ℕ) (xs ys : List Name) → AreBelow n (xs ++ ys) → AreBelow n xs
 below-left n [] ys b = tt

@@ -12,6 +12,7 @@ use Rattle.step_core.specs.State.{State}
 use Rattle.step_core.specs.Step.{core_step, task_step, ready_step, body_step, root_step, launched_step, region_rows, goes_on, after_local}
 use Rattle.step_core.specs.Journal.{burst, counted, option_then, local_step, next_is_local, task_is_local, body_is_local, is_local_row}
 use Rattle.step_core.specs.Ahead.{is_local_at, local_from, local_ahead}
+use Rattle.step_core.proofs.Kept.{local_body, local_place}
 
 pub get_within : {X : Type 0} (xs : List X) (i : ℕ) (x : X) → slice_get xs i ≡ Some x → i < length xs
 get_within [] i x is = absurd (cc)
@@ -162,14 +163,6 @@ burst_keeps (suc n) s t = keeps_at n s t (local_step s t) refl (λ next. burst_k
 
 -- how many rows a burst takes
 
-after_local_place : (row : LocalRow) (task : Task) → (after_local row task).place ≡ task.place + 1
-after_local_place (Constant to bits) task = refl
-after_local_place (Add to left right) task = refl
-
-after_local_body : (row : LocalRow) (task : Task) → (after_local row task).body ≡ task.body
-after_local_body (Constant to bits) task = refl
-after_local_body (Add to left right) task = refl
-
 after_local_parked : (row : LocalRow) (task : Task) → (after_local row task).parked ≡ task.parked
 after_local_parked (Constant to bits) task = refl
 after_local_parked (Add to left right) task = refl
@@ -203,7 +196,7 @@ ahead_at n s t task true is there ready rest =
     let counted : (burst n next t).0 ≡ local_from (is_local_at s.code later.body) n later.place =
     rest next later (get-set_same s.tasks t (Some later) within) (after_local_parked went.0 task ∙ ready) in
     let moved : (burst n next t).0 ≡ local_from (is_local_at s.code task.body) n (task.place + 1) =
-    counted ∙ rw (after_local_body went.0 task, after_local_place went.0 task) refl in
+    counted ∙ rw (local_body went.0 task, local_place went.0 task) refl in
     rw (went.1, is) (ap (λ k. k + 1) moved)
 
 pub burst_ahead : (n : ℕ) (s : State) (t : ℕ) (task : Task) → slice_get s.tasks t ≡ Some (Some task) → task.parked ≡ None →

@@ -73,11 +73,11 @@ local_numbers (Add to left right) task =
     numbers_put task.registers to _
     ∙ ap (λ n. put (numbers task.registers) to (n % 2 ^ 64)) (ap (λ n. n + number_in task.registers right) (sym (numbers_named task.registers left)) ∙ ap (λ n. named (numbers task.registers) left + n) (sym (numbers_named task.registers right)))
 
-local_place : (row : LocalRow) (task : Task) → (after_local row task).place ≡ task.place + 1
+pub local_place : (row : LocalRow) (task : Task) → (after_local row task).place ≡ task.place + 1
 local_place (Constant to bits) task = refl
 local_place (Add to left right) task = refl
 
-local_body : (row : LocalRow) (task : Task) → (after_local row task).body ≡ task.body
+pub local_body : (row : LocalRow) (task : Task) → (after_local row task).body ≡ task.body
 local_body (Constant to bits) task = refl
 local_body (Add to left right) task = refl
 

@@ -6,7 +6,7 @@ mod modules;
 use ir_forms::{Level, Module};
 use mlir_print::print;
 use mlir_text::{PROGRAM_LIMITS, parse};
-use modules::{CHECKED_LOADS, CHECKED_LOOP, CHECKED_PARALLEL, SPLIT_LOOP};
+use modules::{CHECKED_LOADS, CHECKED_LOOP, CHECKED_PARALLEL, FORMS, SPLIT_LOOP, TASKS};
 use std::alloc::Global;
 use std::process::Abort;
 use std::test::Fail;
@@ -40,7 +40,14 @@ fn printed(rt: &impl Abort, alloc: Global, text: &[u8]) -> Result<Vec<u8>, Fail>
 
 #[test]
 fn prints_printed_texts_as_they_are(rt: HostRuntime) -> Result<(), Fail> {
-    for text in [CHECKED_LOADS, CHECKED_LOOP, CHECKED_PARALLEL, SPLIT_LOOP] {
+    for text in [
+        FORMS,
+        TASKS,
+        CHECKED_LOADS,
+        CHECKED_LOOP,
+        CHECKED_PARALLEL,
+        SPLIT_LOOP,
+    ] {
         let printed = printed(&rt, rt.alloc(), text.as_bytes())?;
         assert_eq!(rt; printed.as_slice(), text.as_bytes());
     }

@@ -1,4 +1,92 @@
-//! Printed texts of real modules.
+//! Printed texts: each form of one line, and real modules.
+
+/// Arithmetic, comparisons, choices, casts, constants, buffers without their cells, and an assertion.
+pub const FORMS: &str = "func.func @forms(%0 : i64, %1 : i8, %2 : index, %3 : i1) {
+  %4 = arith.addi %0, %0 : i64
+  %5 = arith.subi %0, %0 : i64
+  %6 = arith.muli %0, %0 : i64
+  %7 = arith.divsi %0, %0 : i64
+  %8 = arith.divui %0, %0 : i64
+  %9 = arith.remsi %0, %0 : i64
+  %10 = arith.remui %0, %0 : i64
+  %11 = arith.andi %0, %0 : i64
+  %12 = arith.ori %0, %0 : i64
+  %13 = arith.xori %0, %0 : i64
+  %14 = arith.shli %0, %0 : i64
+  %15 = arith.shrsi %0, %0 : i64
+  %16 = arith.shrui %0, %0 : i64
+  %17 = arith.maxsi %0, %0 : i64
+  %18 = arith.minsi %0, %0 : i64
+  %19 = arith.maxui %0, %0 : i64
+  %20 = arith.minui %0, %0 : i64
+  %21 = arith.cmpi eq, %1, %1 : i8
+  %22 = arith.cmpi ne, %1, %1 : i8
+  %23 = arith.cmpi slt, %1, %1 : i8
+  %24 = arith.cmpi sle, %1, %1 : i8
+  %25 = arith.cmpi sgt, %1, %1 : i8
+  %26 = arith.cmpi sge, %1, %1 : i8
+  %27 = arith.cmpi ult, %1, %1 : i8
+  %28 = arith.cmpi ule, %1, %1 : i8
+  %29 = arith.cmpi ugt, %1, %1 : i8
+  %30 = arith.cmpi uge, %1, %1 : i8
+  %31 = arith.select %3, %2, %2 : index
+  %32 = arith.extsi %1 : i8 to i64
+  %33 = arith.extui %1 : i8 to i16
+  %34 = arith.trunci %0 : i64 to i32
+  %35 = arith.index_cast %0 : i64 to index
+  %36 = arith.index_castui %2 : index to i8
+  %37 = arith.constant true
+  %38 = arith.constant -0 : i8
+  %39 = arith.constant 18446744073709551615 : i64
+  %40 = memref.alloc(%2, %2) : memref<?x2x?xi1>
+  memref.dealloc %40 : memref<?x2x?xi1>
+  %41 = memref.alloc() : memref<index>
+  memref.store %2, %41[] : memref<index>
+  cf.assert %3, \"a \\\"quote\\\" and a \\0A\"
+  func.return
+}
+";
+
+/// Tasks that await others and give values, groups, and regions that give several values.
+pub const TASKS: &str =
+    "func.func @tasks(%0 : !async.token, %1 : !async.value<memref<4xi64>>, %2 : index, %3 : i1) -> (i64, !async.group) {
+  %4, %5 = async.execute -> !async.value<i64> {
+    %6 = arith.constant 7 : i64
+    async.yield %6 : i64
+  }
+  %7, %8, %9 = async.execute [%0, %4] (%5 as %10 : !async.value<i64>, %1 as %11 : !async.value<memref<4xi64>>) -> (!async.value<i64>, !async.value<memref<4xi64>>) {
+    async.yield %10, %11 : i64, memref<4xi64>
+  }
+  %12 = async.await %8 : !async.value<i64>
+  async.await %7 : !async.token
+  %13, %14 = scf.if %3 -> (i64, index) {
+    scf.yield %12, %2 : i64, index
+  } else {
+    scf.yield %12, %2 : i64, index
+  }
+  %15, %16 = scf.for %17 = %2 to %14 step %2 iter_args(%18 = %13, %19 = %14) -> (i64, index) {
+    scf.yield %18, %17 : i64, index
+  }
+  %20, %21 = scf.while (%22 = %15, %23 = %16) : (i64, index) -> (i64, index) {
+    scf.condition(%3) %22, %23 : i64, index
+  } do {
+    ^b(%24 : i64, %25 : index) :
+    scf.yield %24, %25 : i64, index
+  }
+  scf.while : () -> () {
+    scf.condition(%3)
+  } do {
+    scf.yield
+  }
+  scf.parallel (%26, %27) = (%2, %2) to (%16, %21) step (%2, %2) {
+    scf.reduce
+  }
+  %28 = async.create_group %21 : !async.group
+  %29 = async.add_to_group %9, %28 : !async.value<memref<4xi64>>
+  async.await_all %28
+  func.return %20, %28 : i64, !async.group
+}
+";
 
 /// Loads with the assertions on their indices.
 pub const CHECKED_LOADS: &str =

@@ -2,12 +2,13 @@ use Rattle.std.proofs.Common.{arith, ap, ◌∙◌, inr, rules}
 use Rattle.step_core.specs.Journal.{replay}
 use Rattle.async_cli.specs.Held.{IsUnfinished}
 use Rattle.async_cli.proofs.Stuck.{when_true, when_false}
-use Rattle.async_cli.proofs.Driving.{possible-push, driven-push, live_le}
+use Rattle.async_cli.proofs.Driving.{possible-push, driven-push}
 use Rattle.async_cli.proofs.driver.drive.Goals as goal
+use Rattle.step_core.proofs.Live.{live_most}
 
 pub overflow_cast-parked : goal.overflow_cast-parked
 overflow_cast-parked c =
-    omega (arith, c.left-parked.ensures, live_le c.loop-taken.core.tasks, c.loop-taken.invariant.within.tasks)
+    omega (arith, c.left-parked.ensures, live_most c.loop-taken.core.tasks, c.loop-taken.invariant.within.tasks)
 
 -- a stuck task leaves the journal as it was
 pub returns-then-not-branch-clause-outcome : goal.returns-then-not-branch-clause-outcome

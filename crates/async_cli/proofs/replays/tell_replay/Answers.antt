@@ -1,5 +1,4 @@
 use Rattle.std.proofs.Common.{arith}
-use Rattle.std.specs.Option.{option_copied}
 use Rattle.async_cli.specs.Replays.{ReplayCauses}
 use Rattle.async_cli.proofs.Telling.{is_given, replayed}
 use Rattle.async_cli.proofs.replays.tell_replay.Goals as goal

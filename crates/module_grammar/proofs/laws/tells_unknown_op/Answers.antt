@@ -1,4 +1,4 @@
-use Rattle.module_grammar.proofs.Unknown.{tells-unknown-op}
+use Rattle.module_grammar.proofs.Exact.{tells-unknown-op}
 use Rattle.module_grammar.proofs.laws.tells_unknown_op.Goals as goal
 
 pub returns : goal.returns
