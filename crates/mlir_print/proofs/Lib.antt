@@ -7,3 +7,6 @@ pub mod Words
 pub mod FormSpacing
 pub mod TextSpacing
 pub mod Taking
+pub mod AsciiWords
+pub mod AsciiForms
+pub mod AsciiTexts

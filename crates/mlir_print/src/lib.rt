@@ -1,7 +1,7 @@
 //! The printer of modules: the text that stands for a module.
 #![tactic(auto)]
 
-ghost use Rattle.std.specs.Prelude.{◌≡◌, IfOk};
+ghost use Rattle.std.specs.Prelude.{◌≡◌, IfOk, string_bytes};
 ghost use Rattle.mlir_print.specs.Printed.{printed};
 
 mod commas;
@@ -16,6 +16,7 @@ mod types;
 
 use ir_forms::Module;
 pub use laws::{reads_as_spelled, takes_words};
+use op_table::lists_each_kind;
 use printer::Printer;
 use std::alloc::{AllocError, Global};
 
@@ -28,10 +29,14 @@ use std::alloc::{AllocError, Global};
 /// # Errors
 ///
 /// Where there is no memory.
-pub fn print(alloc: Global, program: &Module) -> Result<Vec<u8>, AllocError>
-    ensures { IfOk result (λ text. text.items ≡ printed program.now) }
+pub fn print(alloc: Global, program: &Module) -> Result<String, AllocError>
+    ensures { IfOk result (λ text. string_bytes text ≡ printed program.now) }
 {
+    lists_each_kind();
     let mut printer = Printer::new(alloc);
     printer.push_funcs(alloc, program.funcs.as_slice())?;
-    Ok(printer.into_text())
+    match String::from_utf8(printer.into_text()) {
+        Ok(text) => Ok(text),
+        Err(_) => unreachable!(),
+    }
 }

@@ -88,14 +88,14 @@ fn func(alloc: Global, name: &[u8], op: Op) -> Result<Func, AllocError> {
     })
 }
 
-fn text_of(alloc: Global, func: Func) -> Result<Vec<u8>, AllocError> {
+fn text_of(alloc: Global, func: Func) -> Result<String, AllocError> {
     let mut funcs = Items::new(alloc);
     funcs.push(func)?;
     print(alloc, &Module { funcs })
 }
 
 /// The text of a function `@f` of this operation.
-fn text_of_op(alloc: Global, op: Op) -> Result<Vec<u8>, AllocError> {
+fn text_of_op(alloc: Global, op: Op) -> Result<String, AllocError> {
     text_of(alloc, func(alloc, b"f", op)?)
 }
 
@@ -105,7 +105,7 @@ fn shows(alloc: Global, rt: &impl Abort, op: Op, lines: &[u8]) -> Result<(), Fai
     let mut wanted = Vec::from_slice(alloc, b"func.func @f() {\n  ")?;
     wanted.extend_from_slice(lines)?;
     wanted.extend_from_slice(b"\n}\n")?;
-    assert_eq!(rt; text.as_slice(), wanted.as_slice());
+    assert_eq!(rt; text.as_bytes(), wanted.as_slice());
     Ok(())
 }
 
@@ -723,7 +723,7 @@ fn prints_a_number_that_is_not_the_place(rt: HostRuntime) -> Result<(), Fail> {
     func.at = 4294967295;
     let text = text_of(alloc, func)?;
     assert_eq!(rt;
-        text.as_slice(),
+        text.as_bytes(),
         b"func.func @g() attributes {aio.at = 4294967295 : i64} {\n  func.return\n}\n".as_slice()
     );
     Ok(())
@@ -745,7 +745,7 @@ fn prints_parameters_and_results(rt: HostRuntime) -> Result<(), Fail> {
     func.results = one(alloc, Ty::Int(Width::W1))?;
     let text = text_of(alloc, func)?;
     assert_eq!(rt;
-        text.as_slice(),
+        text.as_bytes(),
         b"func.func @\"\\C3\\A9\"(%0 : !async.value<i1>, %1 : memref<0x?x!async.value<index>>) -> i1 {\n  func.return %unknown : i1\n}\n".as_slice()
     );
     Ok(())
@@ -763,7 +763,7 @@ fn prints_functions_in_order(rt: HostRuntime) -> Result<(), Fail> {
     funcs.push(second)?;
     let text = print(alloc, &Module { funcs })?;
     assert_eq!(rt;
-        text.as_slice(),
+        text.as_bytes(),
         b"func.func @f() {\n  async.execute {\n    async.yield\n  }\n}\nfunc.func @g() -> (index, !async.token) {\n  func.return {aio.at = 2 : i64}\n}\n".as_slice()
     );
     let text = print(

@@ -1,4 +1,1 @@
-pub mod AsciiWords
-pub mod AsciiForms
-pub mod AsciiTexts
 pub mod FewTokens

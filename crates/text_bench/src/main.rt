@@ -19,7 +19,7 @@ fn main(rt: HostRuntime) -> io::Result<()> {
     match parse(rt.alloc(), &text, Level::Source, &PROGRAM_LIMITS) {
         Ok(module) => {
             let printed = print(rt.alloc(), &module)?;
-            rt.stdout().write_all(&printed)
+            rt.stdout().write_all(printed.as_bytes())
         }
         Err(fault) => println!(rt; "{fault}"),
     }

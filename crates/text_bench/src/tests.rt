@@ -26,15 +26,15 @@ fn read(rt: &impl Abort, alloc: Global, text: &[u8]) -> Option<Module> {
 }
 
 /// The printed text of what a text reads as, which reads as the same.
-fn printed(rt: &impl Abort, alloc: Global, text: &[u8]) -> Result<Vec<u8>, Fail> {
+fn printed(rt: &impl Abort, alloc: Global, text: &[u8]) -> Result<String, Fail> {
     match read(rt, alloc, text) {
         Some(module) => {
             let printed = print(alloc, &module)?;
-            let same = read(rt, alloc, &printed) == Some(module);
+            let same = read(rt, alloc, printed.as_bytes()) == Some(module);
             assert!(rt; same);
             Ok(printed)
         }
-        None => Ok(Vec::new(alloc)),
+        None => Ok(String::new(alloc)),
     }
 }
 
@@ -49,7 +49,7 @@ fn prints_printed_texts_as_they_are(rt: HostRuntime) -> Result<(), Fail> {
         SPLIT_LOOP,
     ] {
         let printed = printed(&rt, rt.alloc(), text.as_bytes())?;
-        assert_eq!(rt; printed.as_slice(), text.as_bytes());
+        assert_eq!(rt; printed.as_str(), text);
     }
     Ok(())
 }
@@ -86,7 +86,7 @@ const WRITTEN: [(&str, &str); 6] = [
 fn prints_what_is_written(rt: HostRuntime) -> Result<(), Fail> {
     for (text, wanted) in WRITTEN {
         let printed = printed(&rt, rt.alloc(), text.as_bytes())?;
-        assert_eq!(rt; printed.as_slice(), wanted.as_bytes(), "{text}");
+        assert_eq!(rt; printed.as_str(), wanted, "{text}");
     }
     Ok(())
 }

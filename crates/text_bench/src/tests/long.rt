@@ -56,7 +56,7 @@ fn prints_many_additions(rt: HostRuntime) -> Result<(), Fail> {
     let draft = additions(rt.alloc(), 28_000)?;
     assert!(rt; draft.bytes.len() > MEBIBYTE - 65_536);
     let printed = printed(&rt, rt.alloc(), &draft.bytes)?;
-    assert!(rt; printed.as_slice() == draft.bytes.as_slice());
+    assert!(rt; printed.as_bytes() == draft.bytes.as_slice());
     Ok(())
 }
 
@@ -75,7 +75,7 @@ fn prints_long_lists(rt: HostRuntime) -> Result<(), Fail> {
     let draft = returned(rt.alloc(), 115_000)?;
     assert!(rt; draft.bytes.len() > MEBIBYTE - 65_536);
     let printed = printed(&rt, rt.alloc(), &draft.bytes)?;
-    assert!(rt; printed.as_slice() == draft.bytes.as_slice());
+    assert!(rt; printed.as_bytes() == draft.bytes.as_slice());
     Ok(())
 }
 
@@ -141,7 +141,7 @@ fn drops_what_says_nothing(rt: HostRuntime) -> Result<(), Fail> {
     assert!(rt; draft.bytes.len() > MEBIBYTE);
     let printed = printed(&rt, rt.alloc(), &draft.bytes)?;
     let wanted = "func.func @f() {\n  func.return\n}\n";
-    assert_eq!(rt; printed.as_slice(), wanted.as_bytes());
+    assert_eq!(rt; printed.as_str(), wanted);
     Ok(())
 }
 
@@ -158,6 +158,6 @@ fn prints_a_long_string(rt: HostRuntime) -> Result<(), Fail> {
     let draft = escaped(rt.alloc(), 350_000)?;
     assert!(rt; draft.bytes.len() > MEBIBYTE);
     let printed = printed(&rt, rt.alloc(), &draft.bytes)?;
-    assert!(rt; printed.as_slice() == draft.bytes.as_slice());
+    assert!(rt; printed.as_bytes() == draft.bytes.as_slice());
     Ok(())
 }

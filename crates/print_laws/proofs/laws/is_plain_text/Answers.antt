@@ -1,4 +1,4 @@
-use Rattle.print_laws.proofs.AsciiTexts.{printed-utf8}
+use Rattle.mlir_print.proofs.AsciiTexts.{printed-utf8}
 use Rattle.print_laws.proofs.laws.is_plain_text.Goals as goal
 
 pub returns : goal.returns

@@ -17,8 +17,8 @@ use Rattle.mlir_print.specs.Docs.{Doc, ◌<>◌, bytes_of, deeper, word, keyword
 use Rattle.mlir_print.specs.Forms.{param, params_of, types_of}
 use Rattle.mlir_print.specs.Printed.{Printed, next, number_dict, op_number, func_number, results_doc, block_line, opening, shows_params, is_left_out, region_first, with_regions, braced, printed_op, printed_region, printed_regions, printed_lines, func_head, printed_func, printed_funcs, printed}
 use Rattle.mlir_print.proofs.Foldings.{printed_op-out, printed_region-out}
-use Rattle.print_laws.proofs.AsciiWords.{all_ascii, each-ascii, ascii-append, Ascii, seq, ascii-number, ascii-symbol}
-use Rattle.print_laws.proofs.AsciiForms.{ascii-empty, ascii-blank, ascii-colon, ascii-equals, ascii-parens, ascii-commas, ascii-values, ascii-results, ascii-param, ascii-form}
+use Rattle.mlir_print.proofs.AsciiWords.{all_ascii, each-ascii, ascii-append, Ascii, seq, ascii-number, ascii-symbol}
+use Rattle.mlir_print.proofs.AsciiForms.{ascii-empty, ascii-blank, ascii-colon, ascii-equals, ascii-parens, ascii-commas, ascii-values, ascii-results, ascii-param, ascii-form}
 
 -- ---- what stands round the forms
 

@@ -13,7 +13,7 @@ use Rattle.mlir_print.specs.Docs.{Doc, ◌<>◌, mark, comma, colon, equals, arr
 use Rattle.mlir_print.specs.Types.{type_doc, types, result_types, results_if_any}
 use Rattle.mlir_print.specs.Tokens.{value}
 use Rattle.mlir_print.specs.Forms.{types_of, params_at, first_group, second_group, third_group, values, value_at, uses, typed, listed, name_of_param, param, typed_values, init, more_inits, inits, value_operand, more_value_operands, value_operands, carried_word, carried, for_bounds, parallel_bounds, begun, dependencies, constant_type, form}
-use Rattle.print_laws.proofs.AsciiWords.{Ascii, seq, ascii-value, ascii-attr, ascii-type}
+use Rattle.mlir_print.proofs.AsciiWords.{Ascii, seq, ascii-value, ascii-attr, ascii-type}
 
 -- ---- pieces
 
