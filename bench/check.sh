@@ -1,5 +1,5 @@
 #!/usr/bin/env bash
-# Time and peak memory of `check` on 64 KiB, 256 KiB and 1 MiB of functions with loops, branches, loads and tasks.
+# Least time and peak memory of `check` on 64 KiB, 256 KiB and 1 MiB of functions with loops, branches, loads and tasks.
 set -eu
 . "$(dirname "$0")/program.sh"
 for bytes in 65536 262144 1048576; do

@@ -1,16 +1,30 @@
-"""Runs a program with words on a text as standard input, and prints status, time, peak memory and what it told, or how much."""
+"""Runs a program several times with words on a text as standard input, and prints its status, the least time, the least peak memory
+and what it told, or how much.
+
+`/usr/bin/time` (Debian's package `time`) starts the program and tells its peak: a child that Python starts has Python's own memory
+before it becomes the program, and that would be told.
+"""
 import os
-import resource
 import subprocess
 import sys
+import tempfile
 import time
 
+RUNS = 5
+TIMER = "/usr/bin/time"
+if not os.access(TIMER, os.X_OK):
+    sys.exit(f"{TIMER} is missing: install the package `time`")
+
 text, command = sys.argv[1], sys.argv[2:]
-begun = time.time()
-with open(text, "rb") as source:
-    told = subprocess.run(command, stdin=source, stdout=subprocess.PIPE)
-spent = time.time() - begun
-peak = resource.getrusage(resource.RUSAGE_CHILDREN).ru_maxrss // 1024
+spent, peaks = [], []
+with tempfile.NamedTemporaryFile("r") as peak:
+    for _ in range(RUNS):
+        begun = time.perf_counter()
+        with open(text, "rb") as source:
+            told = subprocess.run([TIMER, "-q", "-f", "%M", "-o", peak.name, *command], stdin=source, stdout=subprocess.PIPE)
+        spent.append(time.perf_counter() - begun)
+        peak.seek(0)
+        peaks.append(int(peak.read()))
 answer = told.stdout.decode().strip()
 shown = repr(answer) if len(answer) <= 80 else f"{len(answer)} bytes"
-print(f"{os.path.getsize(text)} bytes: status {told.returncode}, {spent:.3f} s, {peak} MB, {shown}")
+print(f"{os.path.getsize(text)} bytes: status {told.returncode}, {min(spent):.3f} s, {min(peaks) / 1024:.1f} MB, {shown}")

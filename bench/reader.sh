@@ -1,5 +1,5 @@
 #!/usr/bin/env bash
-# Time and peak memory of reading texts of 64 KiB, 256 KiB and 1 MiB of functions with loops, branches, loads and
+# Least time and peak memory of reading texts of 64 KiB, 256 KiB and 1 MiB of functions with loops, branches, loads and
 # tasks. `rt run` proves and builds the program first, and keeps it as out/text_bench.
 set -eu
 here="$(cd "$(dirname "$0")/.." && pwd)"

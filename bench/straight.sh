@@ -1,5 +1,5 @@
 #!/usr/bin/env bash
-# Time and peak memory of `run` on the largest straight text that the limit of 1,048,576 bytes allows, and on a half
+# Least time and peak memory of `run` on the largest straight text that the limit of 1,048,576 bytes allows, and on a half
 # and a quarter of it.
 set -eu
 . "$(dirname "$0")/program.sh"

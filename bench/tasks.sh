@@ -1,5 +1,5 @@
 #!/usr/bin/env bash
-# Time and peak memory of `run` for 1,000, 4,000 and 12,000 launches that are awaited in order.
+# Least time and peak memory of `run` for 1,000, 4,000 and 12,000 launches that are awaited in order.
 set -eu
 . "$(dirname "$0")/program.sh"
 for launches in 1000 4000 12000; do

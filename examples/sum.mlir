@@ -21,11 +21,11 @@ func.func @main() -> i64 {
     memref.store %x, %m[%i] : memref<?xi64>
   }
   %t, %first = async.execute -> !async.value<i64> {
-    %s = call @sum(%m, %zero, %half) : (memref<?xi64>, index, index) -> i64
+    %s = func.call @sum(%m, %zero, %half) : (memref<?xi64>, index, index) -> i64
     async.yield %s : i64
   }
   %u, %second = async.execute -> !async.value<i64> {
-    %s = call @sum(%m, %half, %all) : (memref<?xi64>, index, index) -> i64
+    %s = func.call @sum(%m, %half, %all) : (memref<?xi64>, index, index) -> i64
     async.yield %s : i64
   }
   %a = async.await %first : !async.value<i64>

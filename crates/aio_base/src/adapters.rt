@@ -10,7 +10,7 @@ use crate::traits::{Sink, Source};
 use std::io::{Read, Write};
 
 /// A std reader as a source. It tells what the reader tells: nothing, over a file, a pipe or a terminal.
-#[derive(Debug, Drop)]
+#[derive(Drop)]
 pub struct StdSource<R> {
     pub reader: R,
     /// How many reads failed.
@@ -51,7 +51,7 @@ impl<R: Read> Source for StdSource<R> {
 }
 
 /// A std writer as a sink. It tells what the writer tells: nothing, over a file, a pipe or a terminal.
-#[derive(Debug, Drop)]
+#[derive(Drop)]
 pub struct StdSink<W> {
     pub writer: W,
     /// How many writes failed.

@@ -6,8 +6,6 @@ mod errors;
 mod gates;
 mod memory;
 mod sure;
-#[cfg(test)]
-mod tests;
 mod traits;
 mod whole;
 

@@ -11,7 +11,7 @@ use crate::traits::{Sink, Source};
 use std::marker::Model;
 
 /// A source over bytes in memory that never fails. Contracts see it as the bytes that are left.
-#[derive(Debug, Drop)]
+#[derive(Drop)]
 pub struct SureSource {
     bytes: Vec<u8>,
     at: usize,
@@ -57,7 +57,7 @@ impl Source for SureSource {
 }
 
 /// A sink that takes all it is given and forgets it. It never fails, needs no memory and tells no bytes.
-#[derive(Clone, Copy, Debug, Default)]
+#[derive(Clone, Copy, Default)]
 pub struct SureSink;
 
 impl SureSink {

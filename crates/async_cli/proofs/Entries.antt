@@ -1,5 +1,5 @@
 -- The entry's number is that of a function of the module.
-use Rattle.std.proofs.Common.{◌≡◌, ℕ, zero, suc, ◌+◌, List, [], ◌∷◌, Bool, true, false, cond, Result, Ok, Err, slice_get, refl, arith, subst, ap, sym, ◌∙◌, Some, None, codes}
+use Rattle.std.proofs.Common.{◌≡◌, ℕ, zero, suc, ◌+◌, List, [], ◌∷◌, Bool, true, false, cond, Result, Ok, Err, slice_get, refl, arith, subst, ap, sym, ◌∙◌, Some, None}
 use Rattle.std.specs.Str.{bytes_eq}
 use Rattle.ir_forms.specs.declared.ops.Func.{Func}
 use Rattle.ir_forms.specs.declared.runs.FuncNo.{FuncNo}
@@ -42,18 +42,19 @@ entry_is_there fs name number e =
 
 -- ---- what a look-up of the entry tells
 
-pub no_function : (shown program : Module) (number : FuncNo) → shown ≡ program → Ok number ≡ entry_of program →
+pub no_function : (shown program : Module) (name : List ℕ) (number : FuncNo) → shown ≡ program → Ok number ≡ entry_of program name →
     None ≡ slice_get shown.funcs number.0 → ⊥
-no_function shown program number same found none =
-    let there = entry_is_there program.funcs (codes "main") number (sym found) in
+no_function shown program name number same found none =
+    let there = entry_is_there program.funcs name number (sym found) in
     let missing : slice_get program.funcs number.0 ≡ None =
     ap (λ (m : Module). slice_get m.funcs number.0) (sym same) ∙ sym none in
     let both : None ≡ Some there.0 = sym missing ∙ there.1 in
     absurd (cc both)
 
-pub is_entry : (shown program : Module) (number : FuncNo) (entry : Func) → shown ≡ program → Ok number ≡ entry_of program →
-    None ≡ first_not_yet shown → Some entry ≡ slice_get shown.funcs number.0 → IsEntry program entry
-is_entry shown program number entry same found runs is = record {
+pub is_entry : (shown program : Module) (name : List ℕ) (number : FuncNo) (entry : Func) → shown ≡ program →
+    Ok number ≡ entry_of program name → None ≡ first_not_yet shown → Some entry ≡ slice_get shown.funcs number.0 →
+    IsEntry program name entry
+is_entry shown program name number entry same found runs is = record {
   number = number;
   found = sym found;
   is = ap (λ (m : Module). slice_get m.funcs number.0) (sym same) ∙ sym is;

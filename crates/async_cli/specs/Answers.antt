@@ -1,5 +1,5 @@
 -- What the commands have in common: what a call reads and writes, and in which order it refuses.
-use Rattle.std.specs.Prelude.{ℕ, ◌≡◌, ◌≤◌, ◌⊎◌, List, [], length, slice_get, Option, Some, None, Result, Ok, Err, ⊤, codes}
+use Rattle.std.specs.Prelude.{ℕ, ◌≡◌, ◌≤◌, ◌⊎◌, List, [], length, slice_get, Option, Some, None, Result, Ok, Err, ⊤}
 use Rattle.std.specs.Io.KnownBytes.{Appends}
 use Rattle.aio_base.specs.Faults.{Rose}
 use Rattle.aio_base.specs.Whole.{Told, ReadsWhole, ReadsPast, WritesFront}
@@ -8,8 +8,8 @@ use Rattle.ir_forms.specs.declared.ops.Module.{Module}
 use Rattle.ir_forms.specs.declared.runs.FuncNo.{FuncNo}
 use Rattle.ir_forms.specs.Numbers.{renumbered}
 use Rattle.op_table.specs.declared.rows.Level.TheVariants.{Source}
-use Rattle.module_grammar.specs.declared.faults.TextLimits.{TextLimits}
 use Rattle.mlir_text.specs.declared.fault.TextFault.TheVariants as text_fault
+use Rattle.mlir_text.specs.declared.reader.TheConstants.{PROGRAM_LIMITS}
 use Rattle.mlir_text.specs.Texts.{IsTextOf, IsRefused}
 use Rattle.ir_verify.specs.declared.entry.EntryFault.{EntryFault}
 use Rattle.ir_verify.specs.declared.entry.EntryFault.TheVariants as entry_fault
@@ -19,6 +19,8 @@ use Rattle.async_cli.specs.declared.stops.Stop.{Stop}
 use Rattle.async_cli.specs.declared.stops.Stop.TheVariants.{Read, TooLong, NoEntry, EntryType, NotYet, OutOfMemory}
 use Rattle.async_cli.specs.declared.stops.Stop.TheVariants as stop
 use Rattle.async_cli.specs.declared.stops.ModuleFault.TheVariants.{Text, Verify}
+use Rattle.async_cli.specs.declared.answering.Written.{Written}
+use Rattle.async_cli.specs.declared.answering.Written.TheVariants.{Whole, Broken, NoMemory}
 use Rattle.async_cli.specs.NotYet.{first_not_yet}
 
 -- what a call is given: its words, and what its source tells before it and after it
@@ -50,13 +52,9 @@ InputStops limit source (TooLong most) = (most ≡ limit) × ReadsPast source.le
 InputStops limit source OutOfMemory = ⊤
 InputStops limit source _ = ⊥
 
--- how much a module's text may hold
-abbrev pub text_limits : TextLimits
-text_limits = record { operations = 65536; functions = 1024; depth = 64; values = 1048576 }
-
 -- the text is that of this module, whose operations are numbered by their places
 abbrev pub ReadsModule : List ℕ → Module → Type 0
-ReadsModule text program = (m : Module) × (IsTextOf text_limits Source text m × (program ≡ renumbered m))
+ReadsModule text program = (m : Module) × (IsTextOf PROGRAM_LIMITS Source text m × (program ≡ renumbered m))
 
 -- the text is that of this module, which breaks no rule
 abbrev pub IsAccepted : List ℕ → Module → Type 0
@@ -65,46 +63,44 @@ IsAccepted text program = ReadsModule text program × IsSound program.funcs
 -- why a text gives no module that breaks no rule
 abbrev pub ModuleStops : List ℕ → Stop → Type 0
 ModuleStops text (stop.Module (Text text_fault.OutOfMemory)) = ⊥
-ModuleStops text (stop.Module (Text fault)) = IsRefused text_limits Source text fault
+ModuleStops text (stop.Module (Text fault)) = IsRefused PROGRAM_LIMITS Source text fault
 ModuleStops text (stop.Module (Verify op kind)) = (program : Module) × (ReadsModule text program × IsFirst program.funcs (record { op = op; kind = kind }))
 ModuleStops text OutOfMemory = ⊤
 ModuleStops text _ = ⊥
 
--- the first function that is called `main`
-abbrev pub entry_of : Module → Result FuncNo EntryFault
-entry_of program = entry_from 0 program.funcs (codes "main")
+-- the first function of this name
+abbrev pub entry_of : Module → List ℕ → Result FuncNo EntryFault
+entry_of program name = entry_from 0 program.funcs name
 
--- this function of the module is its entry, and a run can take all of its operations
-pub record IsEntry (program : Module) (entry : Func) : Type 0 where
+-- this function is the module's entry of this name, and a run can take all of the module's operations
+pub record IsEntry (program : Module) (name : List ℕ) (entry : Func) : Type 0 where
   pub number : FuncNo
-  pub found : entry_of program ≡ Ok number
+  pub found : entry_of program name ≡ Ok number
   pub is : slice_get program.funcs number.0 ≡ Some entry
   pub runs : first_not_yet program ≡ None
 
--- the text is that of a module with this entry, which breaks no rule
-abbrev pub HasEntry : List ℕ → Func → Type 0
-HasEntry text entry = (program : Module) × (IsAccepted text program × IsEntry program entry)
+-- the text is that of a module with this entry of this name, which breaks no rule
+abbrev pub HasEntry : List ℕ → List ℕ → Func → Type 0
+HasEntry text name entry = (program : Module) × (IsAccepted text program × IsEntry program name entry)
 
--- why a module has no entry that can be run
-abbrev pub EntryStops : Module → Stop → Type 0
-EntryStops program NoEntry = entry_of program ≡ Err entry_fault.NoEntry
-EntryStops program (EntryType op) = entry_of program ≡ Err (entry_fault.EntryType op)
-EntryStops program (NotYet op) = ((number : FuncNo) × (entry_of program ≡ Ok number)) × (first_not_yet program ≡ Some op)
-EntryStops program OutOfMemory = ⊤
-EntryStops program _ = ⊥
+-- why a module has no entry of this name that can be run
+abbrev pub EntryStops : Module → List ℕ → Stop → Type 0
+EntryStops program name NoEntry = entry_of program name ≡ Err entry_fault.NoEntry
+EntryStops program name (EntryType op) = entry_of program name ≡ Err (entry_fault.EntryType op)
+EntryStops program name (NotYet op) = ((number : FuncNo) × (entry_of program name ≡ Ok number)) × (first_not_yet program ≡ Some op)
+EntryStops program name OutOfMemory = ⊤
+EntryStops program name _ = ⊥
 
--- why a text gives no function to run: it gives no module that breaks no rule, or that module has no entry that can be run
-abbrev pub TextStops : List ℕ → Stop → Type 0
-TextStops text stop = ModuleStops text stop ⊎ ((program : Module) × (IsAccepted text program × EntryStops program stop))
+-- why a text gives no function of this name to run: it gives no module that breaks no rule, or that module has no such entry
+-- that can be run
+abbrev pub TextStops : List ℕ → List ℕ → Stop → Type 0
+TextStops text name stop = ModuleStops text stop ⊎ ((program : Module) × (IsAccepted text program × EntryStops program name stop))
 
 -- ---- what is written
 
--- What becomes of an answer whose text is written: that text was taken whole, or a write failed after some first bytes.
-abbrev pub Wrote : {A : Type 0} → Gave → List ℕ → A → (ℕ → A) → A → Type 0
-Wrote gave text answer broken after =
-    ((after ≡ answer) × Appends gave.taken gave.taken_after text)
-    ⊎ ((written : ℕ) × ((after ≡ broken written) × (Rose gave.faults gave.faults_after × WritesFront gave.taken gave.taken_after text written)))
-
--- there was no memory for the text, and nothing was taken
-abbrev pub HadNoMemory : {A : Type 0} → Gave → A → A → Type 0
-HadNoMemory gave short after = (after ≡ short) × Appends gave.taken gave.taken_after []
+-- What became of an answer's text: it was written whole, or a write failed after some first bytes, or there was no memory for
+-- the text and nothing was taken.
+abbrev pub IsWritten : Gave → List ℕ → Written → Type 0
+IsWritten gave text Whole = Appends gave.taken gave.taken_after text
+IsWritten gave text (Broken written) = Rose gave.faults gave.faults_after × WritesFront gave.taken gave.taken_after text written
+IsWritten gave text NoMemory = Appends gave.taken gave.taken_after []

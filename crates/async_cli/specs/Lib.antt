@@ -3,6 +3,7 @@ pub mod Checks
 pub mod Driven
 pub mod Held
 pub mod Inputs
+pub mod Laws
 pub mod NotYet
 pub mod Replays
 pub mod Runs

@@ -13,7 +13,7 @@ use Rattle.async_cli.specs.declared.stops.Stop.{Stop}
 use Rattle.async_cli.specs.declared.stops.Stop.TheVariants as stop
 use Rattle.async_cli.specs.declared.tool_stops.ToolStop.{ToolStop}
 use Rattle.async_cli.specs.declared.tool_stops.ToolStop.TheVariants.{Shared, BadLine, NotARun, Unfinished}
-use Rattle.async_cli.specs.declared.words.Flags.{Flags}
+use Rattle.async_cli.specs.Words.{Asked}
 use Rattle.async_cli.specs.Held.{IsUnfinished}
 use Rattle.async_cli.specs.Answers.{text_limit, IsInput, InputStops, HasEntry, TextStops}
 use Rattle.async_cli.specs.Inputs.{input_limit, IsSplit}
@@ -56,25 +56,25 @@ abbrev pub AreLines : Option (List ℕ) → List Entry → Type 0
 AreLines journal entries = (journal ≡ Some (journal_lines entries)) × AreEntries entries
 
 -- Why nothing was replayed to its end: the first of these stages that stops.
-pub data ReplayCauses (source : Told) : ToolStop → Type 0 where
-  input : (cause : Stop) → InputStops input_limit source cause → ReplayCauses source (Shared cause)
+pub data ReplayCauses (source : Told) (asked : Asked) : ToolStop → Type 0 where
+  input : (cause : Stop) → InputStops input_limit source cause → ReplayCauses source asked (Shared cause)
   long_text : (text : List ℕ) (journal : Option (List ℕ)) → IsGiven source text journal → text_limit < length text
-      → ReplayCauses source (Shared (stop.TooLong text_limit))
+      → ReplayCauses source asked (Shared (stop.TooLong text_limit))
   no_entry : (cause : Stop) (text : List ℕ) (journal : Option (List ℕ)) → IsGiven source text journal → length text ≤ text_limit
-      → TextStops text cause → ReplayCauses source (Shared cause)
+      → TextStops text asked.entry cause → ReplayCauses source asked (Shared cause)
   no_journal : (cause : ToolStop) (text : List ℕ) (journal : Option (List ℕ)) (entry : Func) → IsGiven source text journal
-      → length text ≤ text_limit → HasEntry text entry → LineStops journal cause → ReplayCauses source cause
+      → length text ≤ text_limit → HasEntry text asked.entry entry → LineStops journal cause → ReplayCauses source asked cause
   no_end : (cause : ToolStop) (text : List ℕ) (journal : Option (List ℕ)) (entry : Func) (entries : List Entry) → IsGiven source text journal
-      → length text ≤ text_limit → HasEntry text entry → AreLines journal entries → EntryListStops entry entries cause → ReplayCauses source cause
+      → length text ≤ text_limit → HasEntry text asked.entry entry → AreLines journal entries → EntryListStops entry entries cause → ReplayCauses source asked cause
 
--- What was read is the text of a module with this entry and the journal of a finished run of it.
-pub record ReplayEnds (source : Told) (flags : Flags) (text : List ℕ) : Type 0 where
+-- What was read is the text of a module with the entry that is asked for, and the journal of a finished run of it.
+pub record ReplayEnds (source : Told) (asked : Asked) (text : List ℕ) : Type 0 where
   pub program : List ℕ
   pub journal : Option (List ℕ)
   pub entry : Func
   pub entries : List Entry
   pub was_given : IsGiven source program journal
   pub within : length program ≤ text_limit
-  pub found : HasEntry program entry
+  pub found : HasEntry program asked.entry entry
   pub lines : AreLines journal entries
-  pub finishes : Finishes entry flags entries text
+  pub finishes : Finishes entry asked.flags entries text

@@ -15,7 +15,7 @@ use Rattle.step_core.specs.declared.ends.Entry.{Entry}
 use Rattle.run_journal.specs.declared.faults.TaskLook.{TaskLook}
 use Rattle.async_cli.specs.declared.tool_stops.ToolStop.{ToolStop}
 use Rattle.async_cli.specs.declared.tool_stops.ToolStop.TheVariants.{Shared, BadLine, NotARun, Unfinished}
-use Rattle.async_cli.specs.Texts.{numbered}
+use Rattle.async_cli.specs.Texts.{numbered, between}
 
 abbrev pub status_of : Option Stop → ℕ
 status_of None = 0
@@ -31,19 +31,24 @@ status_of (Some Read) = 7
 status_of (Some (Write written)) = 8
 status_of (Some OutOfMemory) = 9
 
--- ---- the names of faults
+-- ---- the lines of faults
 
-abbrev pub lex_name : LexFault → List ℕ
-lex_name (lex.BadUtf8 at) = codes "BadUtf8"
-lex_name (lex.OpenString at) = codes "OpenString"
-lex_name (lex.BadByte at) = codes "BadByte"
-lex_name lex.OutOfMemory = codes "OutOfMemory"
+-- a kind of fault, and where it stands
+abbrev pub refusal : List ℕ → List ℕ → ℕ → List ℕ
+refusal name where_it_is number = codes "refused: " ++ name ++ numbered where_it_is number (codes "\n")
 
-abbrev pub lex_place : LexFault → ℕ
-lex_place (lex.BadUtf8 at) = at
-lex_place (lex.OpenString at) = at
-lex_place (lex.BadByte at) = at
-lex_place lex.OutOfMemory = 0
+-- a kind of fault, and its byte
+abbrev pub at_byte : List ℕ → ℕ → List ℕ
+at_byte name at = refusal name (codes " at byte ") at
+
+abbrev pub memory_line : List ℕ
+memory_line = codes "stopped: memory\n"
+
+abbrev pub lex_line : LexFault → List ℕ
+lex_line (lex.BadUtf8 at) = at_byte (codes "BadUtf8") at
+lex_line (lex.OpenString at) = at_byte (codes "OpenString") at
+lex_line (lex.BadByte at) = at_byte (codes "BadByte") at
+lex_line lex.OutOfMemory = memory_line
 
 abbrev pub limit_name : Limited → List ℕ
 limit_name limited.Operations = codes "Limit Operations"
@@ -51,48 +56,34 @@ limit_name limited.Functions = codes "Limit Functions"
 limit_name limited.Depth = codes "Limit Depth"
 limit_name limited.Values = codes "Limit Values"
 
-abbrev pub fault_name : TextFault → List ℕ
-fault_name (text.Lex fault) = lex_name fault
-fault_name (text.Syntax at) = codes "Syntax"
-fault_name (text.UnknownOp at) = codes "UnknownOp"
-fault_name (text.UnknownType at) = codes "UnknownType"
-fault_name (text.WideNumber at) = codes "WideNumber"
-fault_name (text.Limit which at) = limit_name which
-fault_name text.OutOfMemory = codes "OutOfMemory"
+abbrev pub fault_line : TextFault → List ℕ
+fault_line (text.Lex fault) = lex_line fault
+fault_line (text.Syntax at) = at_byte (codes "Syntax") at
+fault_line (text.UnknownOp at) = at_byte (codes "UnknownOp") at
+fault_line (text.UnknownType at) = at_byte (codes "UnknownType") at
+fault_line (text.WideNumber at) = at_byte (codes "WideNumber") at
+fault_line (text.Limit which at) = at_byte (limit_name which) at
+fault_line text.OutOfMemory = memory_line
 
--- the byte at which a fault stands
-abbrev pub fault_place : TextFault → ℕ
-fault_place (text.Lex fault) = lex_place fault
-fault_place (text.Syntax at) = at
-fault_place (text.UnknownOp at) = at
-fault_place (text.UnknownType at) = at
-fault_place (text.WideNumber at) = at
-fault_place (text.Limit which at) = at
-fault_place text.OutOfMemory = 0
-
--- a kind of fault, and where it stands
-abbrev pub refusal : List ℕ → List ℕ → ℕ → List ℕ
-refusal name where_it_is number = codes "refused: " ++ name ++ numbered where_it_is number (codes "\n")
-
-abbrev pub module_text : ModuleFault → List ℕ
-module_text (Text fault) = refusal (fault_name fault) (codes " at byte ") (fault_place fault)
-module_text (Verify op kind) = refusal (name_of_kind kind) (codes " at operation ") op
+abbrev pub module_line : ModuleFault → List ℕ
+module_line (Text fault) = fault_line fault
+module_line (Verify op kind) = refusal (name_of_kind kind) (codes " at operation ") op
 
 -- ---- the texts
 
--- the line that tells why there is no end: a failed write has none
-abbrev pub stop_text : Stop → List ℕ
-stop_text Words = codes "refused: words\n"
-stop_text Read = codes "refused: read fault\n"
-stop_text (TooLong limit) = numbered (codes "refused: longer than ") limit (codes " bytes\n")
-stop_text (Module fault) = module_text fault
-stop_text NoEntry = codes "refused: no entry main\n"
-stop_text (EntryType op) = numbered (codes "refused: entry type at operation ") op (codes "\n")
-stop_text (NotYet op) = numbered (codes "refused: NotYet at operation ") op (codes "\n")
-stop_text (Short parked) = numbered (codes "stopped: parked tasks ") parked (codes "\n")
-stop_text (Spent entries) = numbered (codes "stopped: entries ") entries (codes "\n")
-stop_text (Write written) = []
-stop_text OutOfMemory = codes "stopped: memory\n"
+-- The line that tells why there is no end, where this entry is asked for. A failed write has none.
+abbrev pub stop_text : List ℕ → Stop → List ℕ
+stop_text entry Words = codes "refused: words\n"
+stop_text entry Read = codes "refused: read fault\n"
+stop_text entry (TooLong limit) = numbered (codes "refused: longer than ") limit (codes " bytes\n")
+stop_text entry (Module fault) = module_line fault
+stop_text entry NoEntry = between (codes "refused: no entry ") entry (codes "\n")
+stop_text entry (EntryType op) = numbered (codes "refused: entry type at operation ") op (codes "\n")
+stop_text entry (NotYet op) = numbered (codes "refused: NotYet at operation ") op (codes "\n")
+stop_text entry (Short parked) = numbered (codes "stopped: parked tasks ") parked (codes "\n")
+stop_text entry (Spent entries) = numbered (codes "stopped: entries ") entries (codes "\n")
+stop_text entry (Write written) = []
+stop_text entry OutOfMemory = memory_line
 
 -- ---- the answers of the commands that wait for nothing
 
@@ -110,9 +101,9 @@ why_not named (Some seen) =
     else (if seen.local == named.local then codes ", which cannot take its step\n"
     else numbered (codes ", which has ") seen.local (codes " local steps\n"))
 
-abbrev pub tool_text : ToolStop → List ℕ
-tool_text (Shared stop) = stop_text stop
-tool_text (BadLine line) = numbered (codes "refused: journal line ") line (codes "\n")
-tool_text (NotARun number named kept) =
+abbrev pub tool_text : List ℕ → ToolStop → List ℕ
+tool_text entry (Shared stop) = stop_text entry stop
+tool_text entry (BadLine line) = numbered (codes "refused: journal line ") line (codes "\n")
+tool_text entry (NotARun number named kept) =
     numbered (codes "refused: entry ") number (numbered (codes " names task ") named.task (why_not named kept))
-tool_text (Unfinished entries) = numbered (codes "stopped: unfinished after ") entries (codes " entries\n")
+tool_text entry (Unfinished entries) = numbered (codes "stopped: unfinished after ") entries (codes " entries\n")

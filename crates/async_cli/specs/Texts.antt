@@ -14,6 +14,10 @@ use Rattle.async_cli.specs.declared.words.Flags.{Flags}
 abbrev pub line : List ℕ → List ℕ
 line text = text ++ 10 ∷ []
 
+-- a text between two others
+abbrev pub between : List ℕ → List ℕ → List ℕ → List ℕ
+between before middle after = before ++ middle ++ after
+
 -- a number in decimal, between two texts
 abbrev pub numbered : List ℕ → ℕ → List ℕ → List ℕ
 numbered before n after = before ++ decimal n ++ after

@@ -1,37 +1,50 @@
 -- What `tool` owes for each answer.
-use Rattle.std.specs.Prelude.{ℕ, ◌≡◌, ◌⊎◌, List, None, codes}
-use Rattle.async_cli.specs.declared.stops.Stop.TheVariants as stop
+use Rattle.std.specs.Prelude.{ℕ, ◌≡◌, List, [], Some, None}
+use Rattle.aio_base.specs.Whole.{Told}
+use Rattle.async_cli.specs.declared.answering.Written.{Written}
+use Rattle.async_cli.specs.declared.answering.Written.TheVariants.{Whole, Broken, NoMemory}
+use Rattle.async_cli.specs.declared.stops.Stop.TheVariants.{Words}
 use Rattle.async_cli.specs.declared.tool_stops.ToolStop.{ToolStop}
 use Rattle.async_cli.specs.declared.tool_stops.ToolStop.TheVariants.{Shared}
-use Rattle.async_cli.specs.declared.words.Flags.{Flags}
-use Rattle.async_cli.specs.Words.{flags_of}
+use Rattle.async_cli.specs.declared.words.Command.{Command}
+use Rattle.async_cli.specs.declared.words.Command.TheVariants.{Check, Run, Replay}
+use Rattle.async_cli.specs.Words.{Asked, asked_of}
 use Rattle.async_cli.specs.Stops.{tool_text, tool_status}
-use Rattle.async_cli.specs.Answers.{Given, Gave, Wrote, HadNoMemory}
-use Rattle.async_cli.specs.Runs.{Asks}
+use Rattle.async_cli.specs.Answers.{Given, Gave, IsWritten}
 use Rattle.async_cli.specs.Checks.{CheckCauses, CheckEnds}
 use Rattle.async_cli.specs.Replays.{ReplayCauses, ReplayEnds}
 
--- the words ask for no command
-abbrev pub AsksNothing : Given → Type 0
-AsksNothing given = (flags_of (codes "check") given.words ≡ None) × (flags_of (codes "replay") given.words ≡ None)
+-- The status and the text of a command's end. `tool` doesn't serve `run`.
+abbrev pub CommandEnds : Command → Told → Asked → ℕ → List ℕ → Type 0
+CommandEnds Check source asked status text = (status ≡ 0) × CheckEnds source text
+CommandEnds Replay source asked status text = (status ≡ 0) × ReplayEnds source asked text
+CommandEnds Run source asked status text = ⊥
+
+-- why a command has no end
+abbrev pub CommandCauses : Command → Told → Asked → ToolStop → Type 0
+CommandCauses Check source asked cause = CheckCauses source cause
+CommandCauses Replay source asked cause = ReplayCauses source asked cause
+CommandCauses Run source asked cause = cause ≡ Shared Words
 
 -- The status and the text that are owed for what was given.
 pub data ToolOwes (given : Given) : ℕ → List ℕ → Type 0 where
-  words : AsksNothing given → ToolOwes given (tool_status (Shared stop.Words)) (tool_text (Shared stop.Words))
-  checked : (flags : Flags) (text : List ℕ) → Asks (codes "check") given flags → CheckEnds given.source text → ToolOwes given 0 text
-  not_checked : (flags : Flags) (cause : ToolStop) → Asks (codes "check") given flags → CheckCauses given.source cause
-      → ToolOwes given (tool_status cause) (tool_text cause)
-  replayed : (flags : Flags) (text : List ℕ) → Asks (codes "replay") given flags → ReplayEnds given.source flags text → ToolOwes given 0 text
-  not_replayed : (flags : Flags) (cause : ToolStop) → Asks (codes "replay") given flags → ReplayCauses given.source cause
-      → ToolOwes given (tool_status cause) (tool_text cause)
+  words : asked_of given.words ≡ None → ToolOwes given (tool_status (Shared Words)) (tool_text [] (Shared Words))
+  ended : (asked : Asked) (status : ℕ) (text : List ℕ) → asked_of given.words ≡ Some asked
+      → CommandEnds asked.command given.source asked status text → ToolOwes given status text
+  stopped : (asked : Asked) (cause : ToolStop) → asked_of given.words ≡ Some asked
+      → CommandCauses asked.command given.source asked cause → ToolOwes given (tool_status cause) (tool_text asked.entry cause)
 
-abbrev pub broken_status : ℕ → ℕ
-broken_status written = 8
+-- the status after what became of its text
+abbrev pub status_after : ℕ → Written → ℕ
+status_after status Whole = status
+status_after status (Broken written) = 8
+status_after status NoMemory = 9
 
--- What a call owes for its status: the one owed, where its text was written whole, or 8 or 9 where a write failed or there
--- was no memory for the text.
+-- What a call owes for its status: the one owed, or one that tells why its text wasn't written.
 pub record ToolAnswers (given : Given) (gave : Gave) (after : ℕ) : Type 0 where
   pub status : ℕ
   pub text : List ℕ
+  pub written : Written
   pub owed : ToolOwes given status text
-  pub told : Wrote gave text status broken_status after ⊎ HadNoMemory gave 9 after
+  pub told : IsWritten gave text written
+  pub is : after ≡ status_after status written

@@ -1,25 +1,128 @@
 -- What the words of a call ask for. A word is its bytes.
-use Rattle.std.specs.Prelude.{ℕ, true, false, if◌then◌else◌, List, [], ◌∷◌, Option, Some, None, option_and_then, codes}
+use Rattle.std.specs.Prelude.{ℕ, ◌≡◌, ◌+◌, ◌*◌, ◌-◌, ◌==◌, ◌&&◌, ◌||◌, Bool, true, is_some, nat_le, nat_lt, if◌then◌else◌, List, [], ◌∷◌, take, drop, length, Option, Some, None, option_and_then, codes}
 use Rattle.std.specs.Str.{bytes_eq}
+use Rattle.async_cli.specs.declared.words.Command.{Command}
+use Rattle.async_cli.specs.declared.words.Command.TheVariants.{Check, Run, Replay}
 use Rattle.async_cli.specs.declared.words.Flags.{Flags}
+use Rattle.async_cli.specs.declared.words.Asked as code
 
--- no flag stands yet
-abbrev pub no_flags : Flags
-no_flags = record { steps = false; journal = false }
+-- ---- one word
 
--- one more word, which is to be a flag that doesn't stand yet
-abbrev pub with_flag : Flags → List ℕ → Option Flags
-with_flag flags word =
-    if bytes_eq word (codes "--steps") then (if flags.steps then None else Some (record flags { steps = true }))
-    else (if bytes_eq word (codes "--journal") then (if flags.journal then None else Some (record flags { journal = true }))
-    else None)
+abbrev pub command_of : List ℕ → Option Command
+command_of word =
+    if bytes_eq word (codes "check") then Some Check
+    else (if bytes_eq word (codes "run") then Some Run
+    else (if bytes_eq word (codes "replay") then Some Replay
+    else None))
 
--- further words, which are flags in any order
-abbrev pub flags_after : Flags → List (List ℕ) → Option Flags
-flags_after flags [] = Some flags
-flags_after flags (word ∷ words) = option_and_then (λ more. flags_after more words) (with_flag flags word)
+-- the word begins like this
+abbrev pub has_front : List ℕ → List ℕ → Bool
+has_front front word = nat_le (length front) (length word) && bytes_eq (take (length front) word) front
 
--- the flags of a call of this command, where the words are one
-abbrev pub flags_of : List ℕ → List (List ℕ) → Option Flags
-flags_of command [] = None
-flags_of command (word ∷ words) = if bytes_eq word command then flags_after no_flags words else None
+-- what stands behind such a beginning
+abbrev pub behind : List ℕ → List ℕ → Option (List ℕ)
+behind front word = if has_front front word then Some (drop (length front) word) else None
+
+abbrev pub most_fuel : ℕ
+most_fuel = 16777216
+
+abbrev pub is_digit : ℕ → Bool
+is_digit byte = nat_le 48 byte && nat_le byte 57
+
+-- the number that these digits write behind those of n, where it is at most the most fuel
+abbrev pub number_behind : ℕ → List ℕ → Option ℕ
+number_behind n [] = Some n
+number_behind n (byte ∷ bytes) =
+    if is_digit byte then (if nat_le (n * 10 + (byte - 48)) most_fuel then number_behind (n * 10 + (byte - 48)) bytes else None) else None
+
+-- a fuel in decimal, which is at least 1
+abbrev pub fuel_of : List ℕ → Option ℕ
+fuel_of [] = None
+fuel_of (byte ∷ bytes) = option_and_then (λ n. if n == 0 then None else Some n) (number_behind 0 (byte ∷ bytes))
+
+-- a flag, or an option with a value that it can have
+abbrev pub is_option : List ℕ → Bool
+is_option word =
+    bytes_eq word (codes "--steps")
+    || (bytes_eq word (codes "--journal")
+    || (has_front (codes "--entry=") word
+    || is_some (option_and_then fuel_of (behind (codes "--fuel=") word))))
+
+-- ---- the words after the command
+
+abbrev pub are_options : List (List ℕ) → Bool
+are_options [] = true
+are_options (word ∷ words) = is_option word && are_options words
+
+-- how many words begin like this
+abbrev pub count_of : List ℕ → List (List ℕ) → ℕ
+count_of front [] = 0
+count_of front (word ∷ words) = if has_front front word then count_of front words + 1 else count_of front words
+
+-- the first value that stands behind such a beginning
+abbrev pub value_of : List ℕ → List (List ℕ) → Option (List ℕ)
+value_of front [] = None
+value_of front (word ∷ words) = if has_front front word then Some (drop (length front) word) else value_of front words
+
+-- each is an option, and none stands twice
+abbrev pub are_allowed : List (List ℕ) → Bool
+are_allowed words =
+    are_options words
+    && (nat_lt (count_of (codes "--steps") words) 2
+    && (nat_lt (count_of (codes "--journal") words) 2
+    && (nat_lt (count_of (codes "--entry=") words) 2
+    && nat_lt (count_of (codes "--fuel=") words) 2)))
+
+abbrev pub or_else : {A : Type 0} → A → Option A → A
+or_else otherwise None = otherwise
+or_else otherwise (Some value) = value
+
+abbrev pub flags_in : List (List ℕ) → Flags
+flags_in words = record {
+  steps = nat_lt 0 (count_of (codes "--steps") words);
+  journal = nat_lt 0 (count_of (codes "--journal") words);
+}
+
+abbrev pub entry_in : List (List ℕ) → List ℕ
+entry_in words = or_else (codes "main") (value_of (codes "--entry=") words)
+
+abbrev pub fuel_in : List (List ℕ) → ℕ
+fuel_in words = or_else 1000000 (option_and_then fuel_of (value_of (codes "--fuel=") words))
+
+-- ---- a call
+
+-- what a call is asked: a command and its options
+pub record Asked : Type 0 where
+  pub command : Command
+  pub entry : List ℕ
+  pub fuel : ℕ
+  pub flags : Flags
+
+abbrev pub seen : code.Asked → Asked
+seen a = record { command = a.command; entry = a.entry.now; fuel = a.fuel; flags = a.flags }
+
+abbrev pub with_options : List (List ℕ) → Command → Option Asked
+with_options words command =
+    if are_allowed words then Some (record { command = command; entry = entry_in words; fuel = fuel_in words; flags = flags_in words })
+    else None
+
+-- the first word is a command, and the others are its options in any order, each at most once
+abbrev pub asked_of : List (List ℕ) → Option Asked
+asked_of [] = None
+asked_of (word ∷ words) = option_and_then (with_options words) (command_of word)
+
+-- the words ask for this command, with these options
+abbrev pub AsksFor : Command → List (List ℕ) → Asked → Type 0
+AsksFor command words asked = (asked_of words ≡ Some asked) × (asked.command ≡ command)
+
+-- the words don't ask for this command
+abbrev pub AsksNot : Command → List (List ℕ) → Type 0
+AsksNot command words = (asked : Asked) → AsksFor command words asked → ⊥
+
+-- the name of the entry that is asked for, where a command is
+abbrev pub entry_named : Option Asked → List ℕ
+entry_named None = []
+entry_named (Some asked) = asked.entry
+
+abbrev pub entry_asked : List (List ℕ) → List ℕ
+entry_asked words = entry_named (asked_of words)

@@ -103,13 +103,13 @@ fn take_turn(
     ensures err { OnErr result (journal.new.items ≡ journal.old.items) }
 {
     match task_look(core, task.0) {
-        Some(seen) => take_burst(alloc, core, task, seen, journal),
+        Some(seen) => take_seen(alloc, core, task, seen, journal),
         None => unreachable!(),
     }
 }
 
 /// The same for a task that is seen like this.
-fn take_burst(
+fn take_seen(
     alloc: Global,
     core: &mut Core,
     task: TaskNo,

@@ -5,7 +5,7 @@ ghost use Rattle.std.specs.Option.{option_copied};
 ghost use Rattle.aio_base.specs.Whole.{Told};
 ghost use Rattle.ir_forms.specs.declared.ops.Func.{Func as TheFunc};
 ghost use Rattle.step_core.specs.Code.{straight_of};
-ghost use Rattle.async_cli.specs.Answers.{text_limits, IsInput, InputStops, IsAccepted, ModuleStops, IsEntry, EntryStops, HasEntry, TextStops};
+ghost use Rattle.async_cli.specs.Answers.{IsInput, InputStops, IsAccepted, ModuleStops, IsEntry, EntryStops, HasEntry, TextStops};
 ghost use Rattle.async_cli.specs.Inputs.{begins_line, ends_line, is_heading, IsSplit};
 
 use crate::not_yet::first_not_yet;
@@ -63,15 +63,15 @@ pub fn read_module(alloc: Global, text: &[u8]) -> Result<Verified, Stop>
     }
 }
 
-/// The code of the entry of a module.
-fn entry_code(alloc: Global, verified: &Verified) -> Result<Straight, Stop>
-    ensures { MatchResult result (λ code. (entry : TheFunc) × (IsEntry verified.now.program entry × (code ≡ straight_of entry))) (λ stop. EntryStops verified.now.program stop) }
+/// The code of the entry of this name.
+fn entry_code(alloc: Global, verified: &Verified, name: &[u8]) -> Result<Straight, Stop>
+    ensures { MatchResult result (λ code. (entry : TheFunc) × (IsEntry verified.now.program name.now entry × (code ≡ straight_of entry))) (λ stop. EntryStops verified.now.program name.now stop) }
 {
     let program = verified.module();
     if u32::try_from(program.funcs.len()).is_err() {
         return Err(Stop::OutOfMemory);
     }
-    let number = match entry_of(verified, b"main") {
+    let number = match entry_of(verified, name) {
         Ok(number) => number,
         Err(EntryFault::NoEntry) => return Err(Stop::NoEntry),
         Err(EntryFault::EntryType { op }) => return Err(Stop::EntryType { op }),
@@ -88,13 +88,13 @@ fn entry_code(alloc: Global, verified: &Verified) -> Result<Straight, Stop>
     }
 }
 
-/// The code of the entry of the module whose text this is.
-pub fn read_code(alloc: Global, text: &[u8]) -> Result<Straight, Stop>
+/// The code of the entry of this name, in the module whose text this is.
+pub fn read_code(alloc: Global, text: &[u8], name: &[u8]) -> Result<Straight, Stop>
     requires { length text.now < 2 ^ 32 }
-    ensures { MatchResult result (λ code. (entry : TheFunc) × (HasEntry text.now entry × (code ≡ straight_of entry))) (λ stop. TextStops text.now stop) }
+    ensures { MatchResult result (λ code. (entry : TheFunc) × (HasEntry text.now name.now entry × (code ≡ straight_of entry))) (λ stop. TextStops text.now name.now stop) }
 {
     match read_module(alloc, text) {
-        Ok(verified) => entry_code(alloc, &verified),
+        Ok(verified) => entry_code(alloc, &verified, name),
         Err(stop) => Err(stop),
     }
 }

@@ -1,9 +1,12 @@
-//! Dofraneg's program: `run` runs a module that it reads from standard input.
+//! Dofraneg's program: serves a command on the module that standard input has.
 #![tactic(auto)]
 
+mod answering;
 mod checks;
 mod driver;
+mod host;
 mod input;
+mod laws;
 mod not_yet;
 mod outcome;
 mod replays;
@@ -16,23 +19,19 @@ mod tool;
 mod tool_stops;
 mod words;
 
-use aio_base::{OpenGate, StdSink, StdSource};
-use std::alloc::AllocError;
+use aio_base::{OpenGate, StdSink};
+use host::{HostInput, read_words};
 use std::process::ExitCode;
-use std::{env, io};
 
-/// The words after the program's name.
-fn read_words(rt: &HostRuntime) -> io::Result<Vec<String>> {
-    let mut words = Vec::new(rt.alloc());
-    for word in env::args(rt)?.skip(1) {
-        words.push(word).map_err(AllocError::from)?;
-    }
-    Ok(words)
-}
+/// The exit status where there was no memory for the words.
+const NO_MEMORY: u8 = 9;
 
-fn main(rt: HostRuntime) -> io::Result<ExitCode> {
-    let words = read_words(&rt)?;
-    let mut source = StdSource::new(rt.stdin());
+fn main(rt: HostRuntime) -> ExitCode {
+    laws::owes_one_answer();
+    let Ok(words) = read_words(&rt) else {
+        return ExitCode::from(NO_MEMORY);
+    };
+    let mut source = HostInput::new(rt.stdin());
     let mut sink = StdSink::new(rt.stdout());
     let asks_for_run = words.first().is_some_and(|word| word.as_str() == "run");
     let status = if asks_for_run {
@@ -48,5 +47,5 @@ fn main(rt: HostRuntime) -> io::Result<ExitCode> {
     } else {
         tool::tool(rt.alloc(), words.as_slice(), &mut source, &mut sink)
     };
-    Ok(ExitCode::from(status))
+    ExitCode::from(status)
 }

@@ -1,3 +1,5 @@
+//! How the taking of a run's entries ended.
+
 /// Why no further entry of a run was taken.
 #[derive(Clone, Copy, Debug, PartialEq, Eq)]
 pub enum Outcome {

@@ -7,13 +7,14 @@ ghost use Rattle.ir_forms.specs.declared.ops.Func.{Func as TheFunc};
 ghost use Rattle.step_core.specs.Code.{straight_of};
 ghost use Rattle.async_cli.specs.Runs.{Finishes};
 ghost use Rattle.async_cli.specs.Inputs.{input_limit};
+ghost use Rattle.async_cli.specs.Words.{seen};
 ghost use Rattle.async_cli.specs.Replays.{ReplayCauses, ReplayEnds, AreLines, LineStops, EntryListStops};
 
 use crate::input::{INPUT_LIMIT, TEXT_LIMIT, read_code, read_input, split_input};
 use crate::stops::Stop;
 use crate::texts::run_text;
 use crate::tool_stops::ToolStop;
-use crate::words::Flags;
+use crate::words::{Asked, Flags};
 use aio_base::Source;
 use run_journal::{JournalFault, ReplayFault, read_journal, replay};
 use std::alloc::Global;
@@ -22,7 +23,7 @@ use step_core::{Core, Entry, Straight, straight_replays_mean};
 /// Reads a module and a journal, replays it, and makes the text of the end.
 pub fn tell_replay<S: Source>(
     alloc: Global,
-    flags: Flags,
+    asked: Asked,
     source: &mut S,
 ) -> Result<Vec<u8>, ToolStop>
     ensures { let told : Told = record {
@@ -31,7 +32,7 @@ pub fn tell_replay<S: Source>(
       faults = S.faults source.old;
       faults_after = S.faults source.new;
     } in
-        MatchResult result (λ text. ReplayEnds told flags text.items) (λ stop. ReplayCauses told stop) }
+        MatchResult result (λ text. ReplayEnds told (seen asked.entry) text.items) (λ stop. ReplayCauses told (seen asked.entry) stop) }
 {
     let bytes = match read_input(alloc, source, INPUT_LIMIT) {
         Ok(bytes) => bytes,
@@ -41,12 +42,12 @@ pub fn tell_replay<S: Source>(
     if text.len() > TEXT_LIMIT as usize {
         return Err(ToolStop::Shared(Stop::TooLong { limit: TEXT_LIMIT }));
     }
-    let code = match read_code(alloc, text) {
+    let code = match read_code(alloc, text, asked.entry) {
         Ok(code) => code,
         Err(stop) => return Err(ToolStop::Shared(stop)),
     };
     match read_entries(alloc, journal) {
-        Ok(entries) => replay_entries(alloc, &code, entries.as_slice(), flags),
+        Ok(entries) => replay_entries(alloc, &code, entries.as_slice(), asked.flags),
         Err(stop) => Err(stop),
     }
 }

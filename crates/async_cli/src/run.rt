@@ -1,22 +1,25 @@
 //! `run`: one module, from bytes to the text of its run's end.
 
-ghost use Rattle.std.specs.Prelude.{◌≡◌, ◌⊎◌, ◌++◌, [], map, MatchResult, None, Some, codes};
+ghost use Rattle.std.specs.Prelude.{◌≡◌, ℕ, List, [], map, option_map, MatchResult, None, Some};
 ghost use Rattle.std.specs.String.{string_bytes};
 ghost use Rattle.aio_base.specs.Whole.{Told};
 ghost use Rattle.ir_forms.specs.declared.ops.Func.{Func as TheFunc};
 ghost use Rattle.step_core.specs.Code.{straight_of};
-ghost use Rattle.async_cli.specs.declared.stops.Stop.TheVariants.{OutOfMemory};
-ghost use Rattle.async_cli.specs.Answers.{Given, Gave, Wrote, HadNoMemory};
-ghost use Rattle.async_cli.specs.Runs.{Answers, Causes, Ends, RunStops, Finishes, Tells, broken};
+ghost use Rattle.async_cli.specs.declared.words.Command.TheVariants.{Run};
+ghost use Rattle.async_cli.specs.Words.{seen, asked_of, AsksFor};
+ghost use Rattle.async_cli.specs.Answers.{Given, Gave, IsWritten};
+ghost use Rattle.async_cli.specs.Runs.{Answers, Causes, Ends, RunStops, Finishes, stop_after};
 ghost use Rattle.async_cli.specs.Stops.{status_of, stop_text};
 
+use crate::answering::{Written, write_cause, write_text};
 use crate::driver::{ENTRY_LIMIT, drive};
 use crate::input::{TEXT_LIMIT, read_code, read_input};
 use crate::outcome::Outcome;
 use crate::stops::Stop;
 use crate::texts::run_text;
-use crate::words::{Flags, read_flags};
-use aio_base::{Gate, Sink, Source, WriteFault, write_all};
+use crate::tool_stops::ToolStop;
+use crate::words::{Asked, Command, Flags, entry_named, read_words};
+use aio_base::{Gate, Sink, Source};
 use std::alloc::Global;
 use std::sync::Wait;
 use std::thread::Threads;
@@ -31,7 +34,7 @@ pub struct RunEnd {
     pub stop: Option<Stop>,
 }
 
-/// Reads a module, runs its function `main` and writes the text of the end.
+/// Reads a module, runs its entry and writes the text of the end.
 ///
 /// `words` are those after the program's name. The run's tasks take their turns on this thread, so
 /// `rt` and `gate` aren't used yet.
@@ -61,9 +64,11 @@ pub fn run<R: Threads + Wait + Sync, S: Source, K: Sink, G: Gate + Sync>(
         } in
         Answers given gave result.journal.items result.stop }
 {
+    let asked = read_words(words);
     let mut journal = Vec::new(alloc);
-    let told = tell(alloc, words, source, &mut journal);
-    let stop = answer(alloc, sink, &told);
+    let told = tell(alloc, asked, source, &mut journal);
+    let written = write(alloc, sink, entry_named(asked), &told);
+    let stop = stop_after(stop_in(&told), written);
     RunEnd {
         status: Stop::status(stop),
         journal,
@@ -72,81 +77,101 @@ pub fn run<R: Threads + Wait + Sync, S: Source, K: Sink, G: Gate + Sync>(
 }
 
 /// Writes the text of an end, or of the cause why there is none.
-fn answer<K: Sink>(alloc: Global, sink: &mut K, told: &Result<Vec<u8>, Stop>) -> Option<Stop>
+fn write<K: Sink>(
+    alloc: Global,
+    sink: &mut K,
+    entry: &[u8],
+    told: &Result<Vec<u8>, Stop>,
+) -> Written
     ensures { let gave : Gave = record {
       taken = K.taken sink.old;
       taken_after = K.taken sink.new;
       faults = K.faults sink.old;
       faults_after = K.faults sink.new;
     } in
-        MatchResult told.now (λ text. Tells gave None text.items result) (λ stop. Tells gave (Some stop) (stop_text stop) result) }
+        MatchResult told.now (λ text. IsWritten gave text.items result) (λ stop. IsWritten gave (stop_text entry.now stop) result) }
 {
     match told {
-        Ok(text) => write_answer(sink, text.as_slice(), None),
-        Err(stop) => write_stop(alloc, sink, *stop),
+        Ok(text) => write_text(sink, text.as_slice()),
+        Err(stop) => write_cause(alloc, sink, entry, ToolStop::Shared(*stop)),
     }
 }
 
-fn write_answer<K: Sink>(sink: &mut K, text: &[u8], answer: Option<Stop>) -> Option<Stop>
-    ensures { let gave : Gave = record {
-      taken = K.taken sink.old;
-      taken_after = K.taken sink.new;
-      faults = K.faults sink.old;
-      faults_after = K.faults sink.new;
-    } in
-        Wrote gave text.now answer broken result }
+fn stop_in(told: &Result<Vec<u8>, Stop>) -> Option<Stop>
+    ensures { MatchResult told.now (λ text. result ≡ None) (λ stop. result ≡ Some stop) }
 {
-    match write_all(sink, text) {
-        Ok(()) => answer,
-        Err(WriteFault { written }) => Some(Stop::Write { written }),
+    match told {
+        Ok(_) => None,
+        Err(stop) => Some(*stop),
     }
 }
 
-fn write_stop<K: Sink>(alloc: Global, sink: &mut K, stop: Stop) -> Option<Stop>
-    ensures { let gave : Gave = record {
-      taken = K.taken sink.old;
-      taken_after = K.taken sink.new;
-      faults = K.faults sink.old;
-      faults_after = K.faults sink.new;
-    } in
-        Tells gave (Some stop) (stop_text stop) result }
+fn stop_after(answer: Option<Stop>, written: Written) -> Option<Stop>
+    ensures { result ≡ stop_after answer written }
 {
-    let mut text = Vec::new(alloc);
-    match stop.push_text(&mut text) {
-        Ok(()) => write_answer(sink, text.as_slice(), Some(stop)),
-        Err(_) => Some(Stop::OutOfMemory),
+    match written {
+        Written::Whole => answer,
+        Written::Broken { written } => Some(Stop::Write { written }),
+        Written::NoMemory => Some(Stop::OutOfMemory),
     }
 }
 
-/// Reads and runs, and makes the text of the end.
+/// What these words are told: the text of the run's end, or why there is none.
 fn tell<S: Source>(
     alloc: Global,
-    words: &[String],
+    asked: Option<Asked>,
     source: &mut S,
     journal: &mut Vec<Entry>,
 ) -> Result<Vec<u8>, Stop>
     requires { journal.old.items ≡ [] }
-    ensures { let given : Given = record {
-      words = map string_bytes words.now;
-      source = record {
-        left = S.left source.old;
-        left_after = S.left source.new;
-        faults = S.faults source.old;
-        faults_after = S.faults source.new;
-      };
-    } in
+    ensures { (words : List (List ℕ)) → option_map seen asked.entry ≡ asked_of words →
+        let given : Given = record {
+          words = words;
+          source = record {
+            left = S.left source.old;
+            left_after = S.left source.new;
+            faults = S.faults source.old;
+            faults_after = S.faults source.new;
+          };
+        } in
         MatchResult result (λ text. Ends given journal.new.items text.items) (λ stop. Causes given journal.new.items stop) }
 {
-    let flags = match read_flags("run", words) {
-        Some(flags) => flags,
-        None => return Err(Stop::Words),
-    };
+    match asked {
+        Some(asked) => match asked.command {
+            Command::Run => tell_run(alloc, asked, source, journal),
+            Command::Check => Err(Stop::Words),
+            Command::Replay => Err(Stop::Words),
+        },
+        None => Err(Stop::Words),
+    }
+}
+
+/// Reads and runs, and makes the text of the end.
+fn tell_run<S: Source>(
+    alloc: Global,
+    asked: Asked,
+    source: &mut S,
+    journal: &mut Vec<Entry>,
+) -> Result<Vec<u8>, Stop>
+    requires { journal.old.items ≡ [] }
+    ensures { (words : List (List ℕ)) → AsksFor Run words (seen asked.entry) →
+        let given : Given = record {
+          words = words;
+          source = record {
+            left = S.left source.old;
+            left_after = S.left source.new;
+            faults = S.faults source.old;
+            faults_after = S.faults source.new;
+          };
+        } in
+        MatchResult result (λ text. Ends given journal.new.items text.items) (λ stop. Causes given journal.new.items stop) }
+{
     let text = match read_input(alloc, source, TEXT_LIMIT) {
         Ok(text) => text,
         Err(stop) => return Err(stop),
     };
-    match read_code(alloc, &text) {
-        Ok(code) => run_code(alloc, &code, flags, journal),
+    match read_code(alloc, &text, asked.entry) {
+        Ok(code) => run_code(alloc, &code, asked.flags, journal),
         Err(stop) => Err(stop),
     }
 }

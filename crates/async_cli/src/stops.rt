@@ -1,10 +1,10 @@
 //! Why a run ended without an end, with the status and the text of each answer.
 
 ghost use Rattle.std.specs.Prelude.{◌≡◌, ◌++◌, OnOk, codes, decimal};
-ghost use Rattle.async_cli.specs.Stops.{status_of, stop_text, refusal, lex_name, lex_place, limit_name, fault_name, fault_place, module_text};
+ghost use Rattle.async_cli.specs.Stops.{status_of, stop_text, refusal, at_byte, memory_line, lex_line, limit_name, fault_line, module_line};
 ghost use Rattle.async_cli.specs.Texts.{numbered};
 
-use crate::texts::push_numbered;
+use crate::texts::{push_between, push_numbered};
 use ir_verify::VerifyKind;
 use mlir_lex::LexFault;
 use mlir_text::{Limited, TextFault};
@@ -33,14 +33,26 @@ fn push_refusal(
     push_numbered(text, where_it_is, u64::from(number), "\n")
 }
 
-fn lex_name(fault: LexFault) -> (&'static str, u32)
-    ensures { (result.0.now ≡ lex_name fault) × (result.1 ≡ lex_place fault) }
+fn push_at_byte(text: &mut Vec<u8>, name: &str, at: u32) -> Result<(), AllocError>
+    ensures { OnOk result (text.new.items ≡ text.old.items ++ at_byte name.now at) }
+{
+    push_refusal(text, name, " at byte ", at)
+}
+
+fn push_memory(text: &mut Vec<u8>) -> Result<(), AllocError>
+    ensures { OnOk result (text.new.items ≡ text.old.items ++ memory_line) }
+{
+    text.extend_from_slice(b"stopped: memory\n")
+}
+
+fn push_lex_fault(text: &mut Vec<u8>, fault: LexFault) -> Result<(), AllocError>
+    ensures { OnOk result (text.new.items ≡ text.old.items ++ lex_line fault) }
 {
     match fault {
-        LexFault::BadUtf8 { at } => ("BadUtf8", at),
-        LexFault::OpenString { at } => ("OpenString", at),
-        LexFault::BadByte { at } => ("BadByte", at),
-        LexFault::OutOfMemory => ("OutOfMemory", 0),
+        LexFault::BadUtf8 { at } => push_at_byte(text, "BadUtf8", at),
+        LexFault::OpenString { at } => push_at_byte(text, "OpenString", at),
+        LexFault::BadByte { at } => push_at_byte(text, "BadByte", at),
+        LexFault::OutOfMemory => push_memory(text),
     }
 }
 
@@ -55,30 +67,26 @@ fn limit_name(limited: Limited) -> &'static str
     }
 }
 
-/// The name of a text's fault, and its byte.
-fn fault_name(fault: TextFault) -> (&'static str, u32)
-    ensures { (result.0.now ≡ fault_name fault) × (result.1 ≡ fault_place fault) }
+fn push_text_fault(text: &mut Vec<u8>, fault: TextFault) -> Result<(), AllocError>
+    ensures { OnOk result (text.new.items ≡ text.old.items ++ fault_line fault) }
 {
     match fault {
-        TextFault::Lex(fault) => lex_name(fault),
-        TextFault::Syntax { at } => ("Syntax", at),
-        TextFault::UnknownOp { at } => ("UnknownOp", at),
-        TextFault::UnknownType { at } => ("UnknownType", at),
-        TextFault::WideNumber { at } => ("WideNumber", at),
-        TextFault::Limit { which, at } => (limit_name(which), at),
-        TextFault::OutOfMemory => ("OutOfMemory", 0),
+        TextFault::Lex(fault) => push_lex_fault(text, fault),
+        TextFault::Syntax { at } => push_at_byte(text, "Syntax", at),
+        TextFault::UnknownOp { at } => push_at_byte(text, "UnknownOp", at),
+        TextFault::UnknownType { at } => push_at_byte(text, "UnknownType", at),
+        TextFault::WideNumber { at } => push_at_byte(text, "WideNumber", at),
+        TextFault::Limit { which, at } => push_at_byte(text, limit_name(which), at),
+        TextFault::OutOfMemory => push_memory(text),
     }
 }
 
 impl ModuleFault {
     fn push_text(self, text: &mut Vec<u8>) -> Result<(), AllocError>
-        ensures { OnOk result (text.new.items ≡ text.old.items ++ module_text self) }
+        ensures { OnOk result (text.new.items ≡ text.old.items ++ module_line self) }
     {
         match self {
-            ModuleFault::Text(fault) => {
-                let (name, at) = fault_name(fault);
-                push_refusal(text, name, " at byte ", at)
-            }
+            ModuleFault::Text(fault) => push_text_fault(text, fault),
             ModuleFault::Verify { op, kind } => {
                 push_refusal(text, kind.name(), " at operation ", op)
             }
@@ -97,9 +105,9 @@ pub enum Stop {
     TooLong { limit: u32 },
     /// The text is that of no module, or the module breaks a rule.
     Module(ModuleFault),
-    /// No function is called `main`.
+    /// No function has the name of the entry.
     NoEntry,
-    /// The function `main` with this number has an async parameter, an async result or a memref result.
+    /// The entry, which has this number, has an async parameter, an async result or a memref result.
     EntryType { op: u32 },
     /// The first operation that a run can't take yet.
     NotYet { op: u32 },
@@ -136,9 +144,9 @@ impl Stop {
         }
     }
 
-    /// Adds the line that tells the cause. A failed write has none.
-    pub fn push_text(self, text: &mut Vec<u8>) -> Result<(), AllocError>
-        ensures { OnOk result (text.new.items ≡ text.old.items ++ stop_text self) }
+    /// Adds the line that tells the cause, where this entry is asked for. A failed write has none.
+    pub fn push_text(self, entry: &[u8], text: &mut Vec<u8>) -> Result<(), AllocError>
+        ensures { OnOk result (text.new.items ≡ text.old.items ++ stop_text entry.now self) }
     {
         match self {
             Stop::Words => text.extend_from_slice(b"refused: words\n"),
@@ -147,7 +155,7 @@ impl Stop {
                 push_numbered(text, "refused: longer than ", u64::from(limit), " bytes\n")
             }
             Stop::Module(fault) => fault.push_text(text),
-            Stop::NoEntry => text.extend_from_slice(b"refused: no entry main\n"),
+            Stop::NoEntry => push_between(text, "refused: no entry ", entry, "\n"),
             Stop::EntryType { op } => push_numbered(
                 text,
                 "refused: entry type at operation ",
@@ -167,7 +175,7 @@ impl Stop {
                 push_numbered(text, "stopped: entries ", u64::from(entries), "\n")
             }
             Stop::Write { .. } => Ok(()),
-            Stop::OutOfMemory => text.extend_from_slice(b"stopped: memory\n"),
+            Stop::OutOfMemory => push_memory(text),
         }
     }
 }

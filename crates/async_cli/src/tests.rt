@@ -98,7 +98,7 @@ fn answers<R: Threads + Wait + Sync>(
 
 #[test]
 fn tells_each_answer(rt: HostRuntime) -> Result<(), Fail> {
-    let rows: [(&[&str], &[u8], u8, &[u8]); 17] = [
+    let rows: [(&[&str], &[u8], u8, &[u8]); 22] = [
         (&["run"], ANSWER, 0, b"result 0: 42\ntasks 0, objects 0\n"),
         (&["run"], DOUBLED, 0, b"result 0: 84\ntasks 0, objects 0\n"),
         (
@@ -176,6 +176,26 @@ fn tells_each_answer(rt: HostRuntime) -> Result<(), Fail> {
             b"refused: words\n",
         ),
         (&[], ANSWER, 2, b"refused: words\n"),
+        (
+            &["run", "--fuel=16777216", "--entry=f"],
+            b"func.func @main() -> i64 { } func.func @f() { return }",
+            3,
+            b"refused: Terminator at operation 1\n",
+        ),
+        (
+            &["run", "--entry=f", "--steps"],
+            b"func.func @main() { return } func.func @f() { return }",
+            0,
+            b"tasks 0, objects 0\nsteps 1, entries 1\n",
+        ),
+        (
+            &["run", "--entry=no such"],
+            ANSWER,
+            3,
+            b"refused: no entry no such\n",
+        ),
+        (&["run", "--fuel=16777217"], ANSWER, 2, b"refused: words\n"),
+        (&["run", "--fuel=0"], ANSWER, 2, b"refused: words\n"),
     ];
     for (words, text, status, told) in rows {
         assert!(rt; answers(&rt, rt.alloc(), words, text, status, told)?);

@@ -3,7 +3,7 @@
 ghost use Rattle.std.specs.Prelude.{◌≡◌, ◌++◌, ◌+◌, ◌^◌, ◌<◌, [], length, OnOk, IfOk, codes, if◌then◌else◌};
 ghost use Rattle.run_journal.specs.Lines.{journal_lines};
 ghost use Rattle.std.specs.Option.{option_copied};
-ghost use Rattle.async_cli.specs.Texts.{number_text, signed_text, result_line, result_lines, end_lines, numbered, made_line, steps_line, run_text};
+ghost use Rattle.async_cli.specs.Texts.{number_text, signed_text, result_line, result_lines, end_lines, between, numbered, made_line, steps_line, run_text};
 
 use crate::words::Flags;
 use ir_forms::{Out, OutTy, Width};
@@ -38,6 +38,20 @@ fn push_number(text: &mut Vec<u8>, ty: OutTy, number: u64) -> Result<(), AllocEr
         OutTy::Int(Width::W32) => push_signed(text, 32, number),
         OutTy::Int(Width::W64) | OutTy::Index => push_signed(text, 64, number),
     }
+}
+
+/// Adds a text between two others.
+pub fn push_between(
+    text: &mut Vec<u8>,
+    before: &str,
+    middle: &[u8],
+    after: &str,
+) -> Result<(), AllocError>
+    ensures { OnOk result (text.new.items ≡ text.old.items ++ between before.now middle.now after.now) }
+{
+    text.extend_from_slice(before.as_bytes())?;
+    text.extend_from_slice(middle)?;
+    text.extend_from_slice(after.as_bytes())
 }
 
 /// Adds a number in decimal, between two texts.

@@ -1,26 +1,30 @@
 //! The commands that wait for nothing.
 
-ghost use Rattle.std.specs.Prelude.{◌≡◌, ◌⊎◌, ℕ, List, Ok, Err, MatchResult, map, codes, Vec};
+ghost use Rattle.std.specs.Prelude.{◌≡◌, ℕ, List, [], Ok, Err, MatchResult, map, option_map};
 ghost use Rattle.std.specs.String.{string_bytes};
-ghost use Rattle.async_cli.specs.Answers.{Given, Gave, Wrote, HadNoMemory};
+ghost use Rattle.aio_base.specs.Whole.{Told};
+ghost use Rattle.async_cli.specs.Words.{seen, asked_of, entry_asked};
+ghost use Rattle.async_cli.specs.Answers.{Given, Gave, IsWritten};
 ghost use Rattle.async_cli.specs.Stops.{tool_status, tool_text};
-ghost use Rattle.async_cli.specs.Tools.{ToolAnswers, ToolOwes, broken_status};
+ghost use Rattle.async_cli.specs.Tools.{ToolAnswers, ToolOwes, CommandEnds, CommandCauses, status_after};
 
+use crate::answering::{Written, write_cause, write_text};
 use crate::checks::tell_check;
 use crate::replays::tell_replay;
 use crate::stops::Stop;
 use crate::tool_stops::ToolStop;
-use crate::words::read_flags;
-use aio_base::{Sink, Source, write_all};
+use crate::words::{Asked, Command, entry_named, read_words};
+use aio_base::{Sink, Source};
 use std::alloc::Global;
 
-/// The exit status where a write failed.
-const BROKEN: u8 = 8;
+/// The end of a command: the exit status, and the text.
+#[derive(Drop)]
+struct End {
+    status: u8,
+    text: Vec<u8>,
+}
 
-/// The exit status where there was no memory.
-const NO_MEMORY: u8 = 9;
-
-/// Serves the commands other than `run`, and answers the exit status. So far these are `check` and `replay`.
+/// Serves the commands other than `run`, and answers the exit status.
 pub fn tool<S: Source, K: Sink>(alloc: Global, words: &[String], source: &mut S, sink: &mut K) -> u8
     ensures { let given : Given = record {
       words = map string_bytes words.now;
@@ -39,61 +43,94 @@ pub fn tool<S: Source, K: Sink>(alloc: Global, words: &[String], source: &mut S,
         } in
         ToolAnswers given gave result }
 {
-    let told = tell(alloc, words, source);
-    match &told {
-        Ok(text) => write_answer(sink, text.as_slice(), 0),
-        Err(stop) => write_stop(alloc, sink, *stop),
-    }
+    let asked = read_words(words);
+    let told = tell(alloc, asked, source);
+    let written = write(alloc, sink, entry_named(asked), &told);
+    status_after(status_of(&told), written)
 }
 
-fn tell<S: Source>(alloc: Global, words: &[String], source: &mut S) -> Result<Vec<u8>, ToolStop>
-    ensures { let given : Given = record {
-      words = map string_bytes words.now;
-      source = record {
-        left = S.left source.old;
-        left_after = S.left source.new;
-        faults = S.faults source.old;
-        faults_after = S.faults source.new;
-      };
-    } in
-        MatchResult result (λ text. ToolOwes given 0 text.items) (λ stop. ToolOwes given (tool_status stop) (tool_text stop)) }
+/// What these words are told.
+fn tell<S: Source>(alloc: Global, asked: Option<Asked>, source: &mut S) -> Result<End, ToolStop>
+    ensures { (words : List (List ℕ)) → option_map seen asked.entry ≡ asked_of words →
+        let given : Given = record {
+          words = words;
+          source = record {
+            left = S.left source.old;
+            left_after = S.left source.new;
+            faults = S.faults source.old;
+            faults_after = S.faults source.new;
+          };
+        } in
+        MatchResult result (λ end. ToolOwes given end.status end.text.items) (λ stop. ToolOwes given (tool_status stop) (tool_text (entry_asked words) stop)) }
 {
-    match read_flags("check", words) {
-        Some(_) => tell_check(alloc, source),
-        None => match read_flags("replay", words) {
-            Some(flags) => tell_replay(alloc, flags, source),
-            None => Err(ToolStop::Shared(Stop::Words)),
-        },
+    match asked {
+        Some(asked) => serve(alloc, asked, source),
+        None => Err(ToolStop::Shared(Stop::Words)),
     }
 }
 
-fn write_answer<K: Sink>(sink: &mut K, text: &[u8], status: u8) -> u8
+/// Serves a command. A new one has its line here.
+fn serve<S: Source>(alloc: Global, asked: Asked, source: &mut S) -> Result<End, ToolStop>
+    ensures { let told : Told = record {
+      left = S.left source.old;
+      left_after = S.left source.new;
+      faults = S.faults source.old;
+      faults_after = S.faults source.new;
+    } in
+        MatchResult result (λ end. CommandEnds asked.entry.command told (seen asked.entry) end.status end.text.items) (λ stop. CommandCauses asked.entry.command told (seen asked.entry) stop) }
+{
+    match asked.command {
+        Command::Check => done(tell_check(alloc, source)),
+        Command::Replay => done(tell_replay(alloc, asked, source)),
+        Command::Run => Err(ToolStop::Shared(Stop::Words)),
+    }
+}
+
+/// An end whose status is 0.
+fn done(told: Result<Vec<u8>, ToolStop>) -> Result<End, ToolStop>
+    ensures { MatchResult result (λ end. (end.status ≡ 0) × (told ≡ Ok end.text)) (λ stop. told ≡ Err stop) }
+{
+    match told {
+        Ok(text) => Ok(End { status: 0, text }),
+        Err(stop) => Err(stop),
+    }
+}
+
+fn status_of(told: &Result<End, ToolStop>) -> u8
+    ensures { MatchResult told.now (λ end. result ≡ end.status) (λ stop. result ≡ tool_status stop) }
+{
+    match told {
+        Ok(end) => end.status,
+        Err(stop) => stop.status(),
+    }
+}
+
+fn write<K: Sink>(
+    alloc: Global,
+    sink: &mut K,
+    entry: &[u8],
+    told: &Result<End, ToolStop>,
+) -> Written
     ensures { let gave : Gave = record {
       taken = K.taken sink.old;
       taken_after = K.taken sink.new;
       faults = K.faults sink.old;
       faults_after = K.faults sink.new;
     } in
-        Wrote gave text.now status broken_status result }
+        MatchResult told.now (λ end. IsWritten gave end.text.items result) (λ stop. IsWritten gave (tool_text entry.now stop) result) }
 {
-    match write_all(sink, text) {
-        Ok(()) => status,
-        Err(_) => BROKEN,
+    match told {
+        Ok(end) => write_text(sink, end.text.as_slice()),
+        Err(stop) => write_cause(alloc, sink, entry, *stop),
     }
 }
 
-fn write_stop<K: Sink>(alloc: Global, sink: &mut K, stop: ToolStop) -> u8
-    ensures { let gave : Gave = record {
-      taken = K.taken sink.old;
-      taken_after = K.taken sink.new;
-      faults = K.faults sink.old;
-      faults_after = K.faults sink.new;
-    } in
-        Wrote gave (tool_text stop) (tool_status stop) broken_status result ⊎ HadNoMemory gave 9 result }
+fn status_after(status: u8, written: Written) -> u8
+    ensures { result ≡ status_after status written }
 {
-    let mut text = Vec::new(alloc);
-    match stop.push_text(&mut text) {
-        Ok(()) => write_answer(sink, text.as_slice(), stop.status()),
-        Err(_) => NO_MEMORY,
+    match written {
+        Written::Whole => status,
+        Written::Broken { .. } => 8,
+        Written::NoMemory => 9,
     }
 }

@@ -72,12 +72,12 @@ impl ToolStop {
         }
     }
 
-    /// Adds the line that tells the cause.
-    pub fn push_text(self, text: &mut Vec<u8>) -> Result<(), AllocError>
-        ensures { OnOk result (text.new.items ≡ text.old.items ++ tool_text self) }
+    /// Adds the line that tells the cause, where this entry is asked for.
+    pub fn push_text(self, entry: &[u8], text: &mut Vec<u8>) -> Result<(), AllocError>
+        ensures { OnOk result (text.new.items ≡ text.old.items ++ tool_text entry.now self) }
     {
         match self {
-            ToolStop::Shared(stop) => stop.push_text(text),
+            ToolStop::Shared(stop) => stop.push_text(entry, text),
             ToolStop::BadLine { line } => {
                 push_numbered(text, "refused: journal line ", u64::from(line), "\n")
             }

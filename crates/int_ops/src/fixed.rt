@@ -6,7 +6,7 @@ ghost use Rattle.int_ops.specs.Arithmetic.{IsWidth, lacks_result, signed_reading
 use crate::{BinOp, Pred};
 
 /// Numbers of `W` bits, where `W` is 1, 8, 16, 32 or 64: each is a `u64` below `2^W`.
-#[derive(Clone, Copy, PartialEq, Eq, Debug)]
+#[derive(Clone, Copy, PartialEq, Eq)]
 pub struct Int<const W: u32>;
 
 impl<const W: u32> Int<W> {

@@ -13,7 +13,7 @@ pub mod laws;
 pub use fixed::Int;
 
 /// How many bits a number has; an `index` has 64.
-#[derive(Clone, Copy, PartialEq, Eq, Debug)]
+#[derive(Clone, Copy, PartialEq, Eq)]
 pub enum Width {
     W1,
     W8,

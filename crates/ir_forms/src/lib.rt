@@ -1,18 +1,21 @@
-//! Types, operations, regions, functions and modules, as plain data, and what a run gives back.
+//! Types, operations, regions, functions and modules, as plain data; what a run is given, what it shows, and what it
+//! gives back.
 #![tactic(auto)]
 
+mod args;
 mod counts;
 mod laws;
+mod names;
 mod numbers;
 mod ops;
 mod runs;
-#[cfg(test)]
-mod tests;
 mod types;
 
+pub use args::{Arg, ArgValue, Scalar};
 pub use counts::operation_count;
 pub use int_ops::{Pred, Width};
 pub use laws::{numbers_alone, numbers_in_order, renumbered_once};
+pub use names::{Action, ElementName, MadeName, Path, Trace, TraceEntry};
 pub use numbers::renumber;
 pub use op_table::{Level, OpKind};
 pub use ops::{Attr, Func, Module, Op, Region, ValueNo};

@@ -4,7 +4,7 @@ use lists::Items;
 use op_table::OpKind;
 
 /// A value of a function, numbered from 0 in the order in which the text defines them.
-#[derive(Clone, Copy, PartialEq, Eq, Debug)]
+#[derive(Clone, Copy, PartialEq, Eq)]
 pub struct ValueNo(pub u32);
 
 impl ValueNo {
@@ -14,7 +14,7 @@ impl ValueNo {
 
 /// What an operation carries beside its operands: a literal as it is written, a truth, a predicate,
 /// a text, or the name of the function that it calls.
-#[derive(PartialEq, Debug, Drop)]
+#[derive(PartialEq, Drop)]
 pub enum Attr {
     None,
     Literal { negative: bool, magnitude: u64 },
@@ -30,7 +30,7 @@ pub enum Attr {
 /// have several, and `written` the operand types as the form writes them. `types` are the types of
 /// the results as the form says them; their number may differ from that of `results`.
 #[cycle(ir)]
-#[derive(PartialEq, Debug, Drop)]
+#[derive(PartialEq, Drop)]
 pub struct Op {
     pub kind: OpKind,
     pub at: u32,
@@ -45,14 +45,14 @@ pub struct Op {
 
 /// A body: its parameters and its operations, the terminator last.
 #[cycle(ir)]
-#[derive(PartialEq, Debug, Drop)]
+#[derive(PartialEq, Drop)]
 pub struct Region {
     pub params: Items<(ValueNo, Ty)>,
     pub ops: Items<Op>,
 }
 
 /// A function. Its parameters stand here, and those of its body are empty.
-#[derive(PartialEq, Debug, Drop)]
+#[derive(PartialEq, Drop)]
 pub struct Func {
     pub name: Items<u8>,
     pub params: Items<(ValueNo, Ty)>,
@@ -61,7 +61,7 @@ pub struct Func {
     pub at: u32,
 }
 
-#[derive(PartialEq, Debug, Drop)]
+#[derive(PartialEq, Drop)]
 pub struct Module {
     pub funcs: Items<Func>,
 }

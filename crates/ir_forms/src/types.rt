@@ -2,7 +2,7 @@ use int_ops::Width;
 use lists::Items;
 
 /// A type of the grammar, and `Untyped` for a region's parameter whose form gives it none.
-#[derive(PartialEq, Debug, Drop)]
+#[derive(PartialEq, Drop)]
 pub enum Ty {
     Int(Width),
     Index,
@@ -18,14 +18,14 @@ pub enum Ty {
 }
 
 /// A type of whole numbers.
-#[derive(Clone, Copy, PartialEq, Eq, Debug)]
+#[derive(Clone, Copy, PartialEq, Eq)]
 pub enum NumTy {
     Int(Width),
     Index,
 }
 
 /// The type of one cell of a buffer. After verification it is a type of numbers.
-#[derive(Clone, Copy, PartialEq, Eq, Debug)]
+#[derive(Clone, Copy, PartialEq, Eq)]
 pub enum CellTy {
     Int(Width),
     Index,
@@ -35,21 +35,21 @@ pub enum CellTy {
 }
 
 /// One dimension of a buffer: its size, or `?`.
-#[derive(Clone, Copy, PartialEq, Eq, Debug)]
+#[derive(Clone, Copy, PartialEq, Eq)]
 pub enum Dim {
     Fixed(u32),
     Dynamic,
 }
 
 /// `memref<..>`: the sizes from the outermost dimension on, and the type of a cell.
-#[derive(PartialEq, Debug, Drop)]
+#[derive(PartialEq, Drop)]
 pub struct MemTy {
     pub elem: CellTy,
     pub dims: Items<Dim>,
 }
 
 /// What an `!async.value<..>` holds.
-#[derive(PartialEq, Debug, Drop)]
+#[derive(PartialEq, Drop)]
 pub enum ValTy {
     Int(Width),
     Index,
@@ -57,7 +57,7 @@ pub enum ValTy {
 }
 
 /// The type of a number that a run gives back.
-#[derive(Clone, Copy, PartialEq, Eq, Debug)]
+#[derive(Clone, Copy, PartialEq, Eq)]
 pub enum OutTy {
     Int(Width),
     Index,

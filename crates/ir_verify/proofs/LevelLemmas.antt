@@ -4,7 +4,7 @@ use Rattle.std.specs.Prelude.{slice_get, nat_le, nat_lt, if◌then◌else◌}
 use Rattle.op_table.specs.declared.kind.OpKind.{OpKind}
 use Rattle.op_table.specs.declared.rows.Level.{Level}
 use Rattle.op_table.specs.declared.rows.Level.TheVariants.{Source, Split}
-use Rattle.op_table.specs.Rows.{row_of, place_of, stands_at}
+use Rattle.op_table.specs.Rows.{row_of, place_of, stands_at, is_other}
 use Rattle.ir_forms.specs.declared.ops.Op.{Op, roll-Op, out-roll-Op}
 use Rattle.ir_forms.specs.declared.ops.Op.TheFolds.{ind-Region}
 use Rattle.ir_forms.specs.declared.ops.Region.{Region, roll-Region, out-roll-Region}
@@ -13,7 +13,7 @@ use Rattle.ir_forms.specs.Ops.{kind_of, results_of, regions_of, ops_of}
 use Rattle.ir_verify.specs.Levels.{kinds_at, kinds_in, kinds_along, kinds_held, kinds_of, later, latest, level_of}
 use Rattle.ir_verify.specs.Places.{Around, Seen, Spot, places_at, places_in, places_along, places_held, within, params_of, defined, types_of, is_none_left, in_body}
 use Rattle.ir_verify.specs.declared.fault.VerifyKind.TheVariants.{TypeMismatch}
-use Rattle.ir_verify.specs.Breaks.{breaks, number_of, is_other}
+use Rattle.ir_verify.specs.Breaks.{breaks, number_of}
 use Rattle.ir_verify.specs.Calls.{IsTaskCalled}
 use Rattle.ir_verify.specs.Forms.{form, form_of}
 use Rattle.ir_verify.specs.Verdict.{IsSound, Tells, body_places, at_operation}

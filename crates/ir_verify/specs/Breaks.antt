@@ -11,13 +11,14 @@ use Rattle.ir_forms.specs.Ops.{operands_of, written_of, results_of, regions_of, 
 use Rattle.ir_verify.specs.declared.fault.Broken.{Broken}
 use Rattle.ir_verify.specs.declared.fault.VerifyKind.{VerifyKind}
 use Rattle.ir_verify.specs.declared.fault.VerifyKind.TheVariants.{Undefined, TypeMismatch, Terminator, UnknownFunc, Arity, AsyncInMemref, BlockingAwait}
-use Rattle.ir_verify.specs.declared.form.Form.{Form}
-use Rattle.ir_verify.specs.declared.form.Form.TheVariants.{Call, TryCall, If, Await, AwaitAll, Other}
+use Rattle.op_table.specs.declared.form.Form.{Form}
+use Rattle.op_table.specs.declared.form.Form.TheVariants.{Call, TryCall, If, Await, AwaitAll, Other}
 use Rattle.ir_verify.specs.declared.place.Nest.{Nest}
 use Rattle.ir_verify.specs.declared.place.Nest.TheVariants.{InFunction, InTask, InLoop}
+use Rattle.op_table.specs.Rows.{is_other}
 use Rattle.ir_verify.specs.Faults.{noted}
 use Rattle.ir_verify.specs.Places.{Place, Spot, Seen, types_of, params_of}
-use Rattle.ir_verify.specs.Forms.{form, regions_asked, end_asked, ends, is_ending}
+use Rattle.ir_verify.specs.Forms.{row_at, form, end_asked, ends, is_ending}
 use Rattle.ir_verify.specs.Scopes.{lookup}
 use Rattle.ir_verify.specs.Types.{has_async_cells}
 use Rattle.ir_verify.specs.Rules.{is_in_place, operand_fits, operands_asked, written_fits, written_asked, result_fits, types_asked, param_fits, params_fit, groups_fit}
@@ -85,10 +86,6 @@ region_breaks _ op r region = false
 
 -- ---- by itself
 
-abbrev pub is_other : Form → Bool
-is_other Other = true
-is_other _ = false
-
 abbrev pub is_call : Form → Bool
 is_call Call = true
 is_call TryCall = true
@@ -108,9 +105,9 @@ would_block InFunction is_called = is_called
 -- a list of the operation has another length than is asked
 abbrev pub miscounts : Place → Bool
 miscounts p =
-    not (length (operands_of p.op) == operands_asked (form p.op) p) || (not (length (written_of p.op) == written_asked (form p.op) p)
-    || (not (length (types_of p.op) == types_asked (form p.op) p) || (not (length (results_of p.op) == length (types_of p.op))
-    || (not (length (regions_of p.op) == regions_asked (form p.op)) || not (groups_fit (form p.op) p.op)))))
+    not (length (operands_of p.op) == operands_asked p.op) || (not (length (written_of p.op) == written_asked (form p.op) p)
+    || (not (length (types_of p.op) == types_asked p) || (not (length (results_of p.op) == length (types_of p.op))
+    || (not (length (regions_of p.op) == (row_at p.op).regions) || not (groups_fit (form p.op) p.op)))))
 
 abbrev pub has_results : Option Func → Bool
 has_results None = false

@@ -8,10 +8,12 @@ use Rattle.ir_forms.specs.declared.ops.Func.{Func}
 use Rattle.ir_forms.specs.declared.types.Ty.{Ty}
 use Rattle.ir_forms.specs.declared.types.Ty.TheVariants.{Untyped}
 use Rattle.ir_forms.specs.Ops.{written_of, regions_of, attr_of}
-use Rattle.ir_verify.specs.declared.form.Form.{Form}
-use Rattle.ir_verify.specs.declared.form.Form.TheVariants.{Binary, Compare, Select, Extend, Truncate, IndexCast, Constant, Assert, Call, TryCall, Return, For, If, While, Condition, Parallel, Yield, Alloc, Dealloc, Load, Store, Dim, Execute, TaskYield, Await, AwaitAll, CreateGroup, AddToGroup}
+use Rattle.op_table.specs.declared.rows.Count.{Count}
+use Rattle.op_table.specs.declared.rows.Count.TheVariants.{Exactly, Any}
+use Rattle.op_table.specs.declared.form.Form.{Form}
+use Rattle.op_table.specs.declared.form.Form.TheVariants.{Binary, Compare, Select, Extend, Truncate, IndexCast, Constant, Assert, Call, TryCall, Return, For, If, While, Condition, Parallel, Yield, Alloc, Dealloc, Load, Store, Dim, Execute, TaskYield, Await, AwaitAll, CreateGroup, AddToGroup}
 use Rattle.ir_verify.specs.Places.{Around, Place, Seen, types_of, params_of}
-use Rattle.ir_verify.specs.Forms.{form, end_asked, ends}
+use Rattle.ir_verify.specs.Forms.{row_at, form, end_asked, ends}
 use Rattle.ir_verify.specs.Types.{same_type, holds, is_element, is_number, is_truth, is_index, is_memref, is_token, is_value, is_group, is_awaitable, dims_of, open_dims, extends, truncates, casts_index, literal_fits}
 
 -- ---- words
@@ -116,10 +118,9 @@ for_operand op (suc zero) t = is_index t
 for_operand op (suc (suc zero)) t = is_index t
 for_operand op (suc (suc (suc i))) t = is_asked (slice_get (types_of op) i) t
 
--- the condition of `scf.condition` is asked where it ends a region
-abbrev pub condition_operand : Place → ℕ → Ty → Bool
-condition_operand p zero t = not (is_in_place p) || is_truth t
-condition_operand p (suc i) t = is_asked (slice_get (written_of p.op) i) t
+abbrev pub condition_operand : Op → ℕ → Ty → Bool
+condition_operand op zero t = is_truth t
+condition_operand op (suc i) t = is_asked (slice_get (written_of op) i) t
 
 abbrev pub indexes : Op → ℕ → Ty → Bool
 indexes op i t = nat_le (length (dims_of (first_type (written_of op)))) i || is_index t
@@ -161,7 +162,7 @@ operand_fits TryCall p i t = is_asked (slice_get (written_of p.op) i) t
 operand_fits Return p i t = is_asked (slice_get (written_of p.op) i) t
 operand_fits Yield p i t = is_asked (slice_get (written_of p.op) i) t
 operand_fits TaskYield p i t = is_asked (slice_get (written_of p.op) i) t
-operand_fits Condition p i t = condition_operand p i t
+operand_fits Condition p i t = condition_operand p.op i t
 operand_fits For p i t = for_operand p.op i t
 operand_fits If p i t = is_truth t
 operand_fits While p i t = is_asked (slice_get (written_of p.op) i) t
@@ -178,36 +179,31 @@ operand_fits CreateGroup p i t = is_index t
 operand_fits AddToGroup p i t = member_operand p.op i t
 operand_fits _ p i t = true
 
+-- a row's count, and where it has none this one
+abbrev pub counted : Count → ℕ → ℕ
+counted (Exactly n) own = n
+counted Any own = own
+
+-- how many operands an operation of a form has, where its row has no count
+abbrev pub operands_given : Form → Op → ℕ
+operands_given Call op = length (written_of op)
+operands_given TryCall op = length (written_of op)
+operands_given Return op = length (written_of op)
+operands_given Yield op = length (written_of op)
+operands_given TaskYield op = length (written_of op)
+operands_given Condition op = length (written_of op) + 1
+operands_given For op = length (types_of op) + 3
+operands_given While op = length (written_of op)
+operands_given Parallel op = 3 * dimensions op
+operands_given Alloc op = open_dims (dims_of (first_type (types_of op)))
+operands_given Load op = length (dims_of (first_type (written_of op))) + 1
+operands_given Store op = length (dims_of (first_type (written_of op))) + 2
+operands_given Execute op = group op 0 + length (written_of op)
+operands_given _ op = 0
+
 -- how many operands there are
-abbrev pub operands_asked : Form → Place → ℕ
-operands_asked Binary p = 2
-operands_asked Compare p = 2
-operands_asked Select p = 3
-operands_asked Extend p = 1
-operands_asked Truncate p = 1
-operands_asked IndexCast p = 1
-operands_asked Assert p = 1
-operands_asked Call p = length (written_of p.op)
-operands_asked TryCall p = length (written_of p.op)
-operands_asked Return p = length (written_of p.op)
-operands_asked Yield p = length (written_of p.op)
-operands_asked TaskYield p = length (written_of p.op)
-operands_asked Condition p = length (written_of p.op) + 1
-operands_asked For p = length (types_of p.op) + 3
-operands_asked If p = 1
-operands_asked While p = length (written_of p.op)
-operands_asked Parallel p = 3 * dimensions p.op
-operands_asked Alloc p = open_dims (dims_of (first_type (types_of p.op)))
-operands_asked Dealloc p = 1
-operands_asked Load p = length (dims_of (first_type (written_of p.op))) + 1
-operands_asked Store p = length (dims_of (first_type (written_of p.op))) + 2
-operands_asked Dim p = 2
-operands_asked Execute p = group p.op 0 + length (written_of p.op)
-operands_asked Await p = 1
-operands_asked AwaitAll p = 1
-operands_asked CreateGroup p = 1
-operands_asked AddToGroup p = 2
-operands_asked _ p = 0
+abbrev pub operands_asked : Op → ℕ
+operands_asked op = counted (row_at op).operands (operands_given (form op) op)
 
 -- ---- written types
 
@@ -284,28 +280,16 @@ result_fits CreateGroup p i t = is_group t
 result_fits AddToGroup p i t = is_index t
 result_fits _ p i t = true
 
--- how many types the form gives its results
-abbrev pub types_asked : Form → Place → ℕ
-types_asked Binary p = 1
-types_asked Compare p = 1
-types_asked Select p = 1
-types_asked Extend p = 1
-types_asked Truncate p = 1
-types_asked IndexCast p = 1
-types_asked Constant p = 1
-types_asked Call p = result_length p.callee (length (types_of p.op))
-types_asked TryCall p = 1
-types_asked For p = length (types_of p.op)
-types_asked If p = length (types_of p.op)
-types_asked While p = length (types_of p.op)
-types_asked Alloc p = 1
-types_asked Load p = 1
-types_asked Dim p = 1
-types_asked Execute p = max 1 (length (types_of p.op))
-types_asked Await p = if is_value (first_type (written_of p.op)) then 1 else 0
-types_asked CreateGroup p = 1
-types_asked AddToGroup p = 1
-types_asked _ p = 0
+-- how many types an operation of a form gives its results, where its row has no count
+abbrev pub types_given : Form → Place → ℕ
+types_given Call p = result_length p.callee (length (types_of p.op))
+types_given Execute p = max 1 (length (types_of p.op))
+types_given Await p = if is_value (first_type (written_of p.op)) then 1 else 0
+types_given _ p = length (types_of p.op)
+
+-- how many types the operation gives its results
+abbrev pub types_asked : Place → ℕ
+types_asked p = counted (row_at p.op).results (types_given (form p.op) p)
 
 -- ---- the parameters of regions
 

@@ -7,7 +7,7 @@ use Rattle.ir_forms.specs.Ops.{ops_of}
 use Rattle.ir_verify.specs.declared.fault.Broken.{Broken}
 use Rattle.ir_verify.specs.declared.fault.VerifyKind.{VerifyKind}
 use Rattle.ir_verify.specs.declared.fault.VerifyKind.TheVariants.{Undefined, Terminator, AsyncInMemref}
-use Rattle.ir_verify.specs.declared.form.Form.TheVariants.{Return}
+use Rattle.op_table.specs.declared.form.Form.TheVariants.{Return}
 use Rattle.ir_verify.specs.Breaks.{some_at, breaks, lacks_end, number_of, noted_all}
 use Rattle.ir_verify.specs.Calls.{AreMarks, IsTaskCalled, graph_of, is_marked}
 use Rattle.ir_verify.specs.Faults.{noted, is_before}

@@ -1,14 +1,14 @@
 //! Which rules an operation breaks in its place.
 ghost use Rattle.std.specs.Prelude.{◌≡◌, ◌-◌, ◌<◌, ◌^◌, ◌||◌, length};
 ghost use Rattle.ir_forms.specs.Ops.{operands_of, written_of, regions_of, ops_of};
-ghost use Rattle.ir_verify.specs.Breaks.{some_at, operand_breaks, written_breaks, result_breaks, param_breaks, last_form, lacks_end, may_be_empty, region_breaks, is_other, is_call, is_await, would_block, miscounts, has_results, tries_results, own_breaks, breaks, noted_kind, noted_spot};
+ghost use Rattle.ir_verify.specs.Breaks.{some_at, operand_breaks, written_breaks, result_breaks, param_breaks, last_form, lacks_end, may_be_empty, region_breaks, is_call, is_await, would_block, miscounts, has_results, tries_results, own_breaks, breaks, noted_kind, noted_spot};
 ghost use Rattle.std.specs.Option.{option_copied};
 ghost use Rattle.ir_verify.specs.Forms.{form};
 ghost use Rattle.ir_verify.specs.Places.{types_of, params_of};
 ghost use Rattle.ir_verify.specs.Sites.{place_at};
 
 use crate::fault::{Broken, VerifyKind, noted};
-use crate::form::Form;
+use crate::form::{end_asked, ends, form_of, is_ending};
 use crate::place::Nest;
 use crate::rules::{
     groups_fit, is_in_place, operand_fits, operands_counted, param_fits, params_fit, result_fits,
@@ -18,12 +18,7 @@ use crate::scope::Scope;
 use crate::site::Site;
 use crate::types::has_async_cells;
 use ir_forms::{Func, Op, Region, Ty, ValueNo};
-
-fn form_of(op: &Op) -> Form
-    ensures { result ≡ form op.now }
-{
-    Form::of(op.kind)
-}
+use op_table::{Form, row};
 
 fn operand_breaks(
     kind: VerifyKind,
@@ -142,7 +137,7 @@ fn last_form(ops: &[Op]) -> Form
 pub(crate) fn lacks_end(asked: Form, ops: &[Op]) -> bool
     ensures { result ≡ lacks_end asked ops.now }
 {
-    asked.is_ending() && !asked.ends(last_form(ops))
+    is_ending(asked) && !ends(asked, last_form(ops))
 }
 
 /// Whether a region may have no operations: the second one of a branch without results.
@@ -163,7 +158,7 @@ fn region_breaks(kind: VerifyKind, op: &Op, place: usize, region: &Region) -> bo
     match kind {
         VerifyKind::Terminator => {
             !may_be_empty(form, place, op.types.as_slice(), ops)
-                && lacks_end(form.end_asked(place), ops)
+                && lacks_end(end_asked(form, place), ops)
         }
         VerifyKind::Arity => !params_fit(op, place, region.params.len()),
         VerifyKind::TypeMismatch | VerifyKind::AsyncInMemref => {
@@ -213,11 +208,11 @@ fn miscounts(site: &Site) -> bool
     ensures { result ≡ miscounts (place_at site.now) }
 {
     let op = site.op;
-    !operands_counted(site)
+    !operands_counted(op)
         || op.written.len() != written_asked(site)
         || op.types.len() != types_asked(site)
         || op.results.len() != op.types.len()
-        || op.regions.len() != form_of(op).regions_asked()
+        || op.regions.len() != row(op.kind).regions as usize
         || !groups_fit(op)
 }
 
@@ -236,7 +231,7 @@ fn own_breaks(kind: VerifyKind, site: &Site) -> bool
     let form = form_of(site.op);
     match kind {
         VerifyKind::TypeMismatch => matches!(form, Form::Other),
-        VerifyKind::Terminator => form.is_ending() && !is_in_place(site),
+        VerifyKind::Terminator => is_ending(form) && !is_in_place(site),
         VerifyKind::UnknownFunc => is_call(form) && site.callee.is_none(),
         VerifyKind::Arity => miscounts(site) || tries_results(form, site.callee),
         VerifyKind::BlockingAwait => {

@@ -38,7 +38,7 @@ fn some_async_param(params: &[(ValueNo, Ty)]) -> bool
     ensures { result ≡ some_at param_is_async params.now }
 {
     for (place, param) in params.iter().enumerate() {
-        let _place = place;
+        let _place = place; // counted, since the contract speaks of places
         if is_async(&param.1) {
             return true;
         }
@@ -50,7 +50,7 @@ fn some_refused_result(types: &[Ty]) -> bool
     ensures { result ≡ some_at result_is_refused types.now }
 {
     for (place, t) in types.iter().enumerate() {
-        let _place = place;
+        let _place = place; // counted, since the contract speaks of places
         if is_async_or_memref(t) {
             return true;
         }

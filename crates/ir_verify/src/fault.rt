@@ -24,7 +24,7 @@ pub enum VerifyKind {
 }
 
 /// An operation, by its number, and one rule that it breaks.
-#[derive(Clone, Copy, PartialEq, Eq, Debug)]
+#[derive(Clone, Copy, PartialEq, Eq)]
 pub struct Broken {
     pub op: u32,
     pub kind: VerifyKind,

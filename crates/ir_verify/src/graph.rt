@@ -5,7 +5,7 @@ ghost use Rattle.ir_verify.specs.Calls.{call_of, calls_at, calls_in, graph_of};
 
 use crate::breaks::is_call;
 use crate::calls::{Call, call_to};
-use crate::form::Form;
+use crate::form::form_of;
 use crate::names::Names;
 use crate::place::Nest;
 use crate::site::nest_in;
@@ -17,7 +17,7 @@ use std::alloc::{AllocError, Global};
 fn note_call(calls: &mut Items<Call>, names: &Names, op: &Op, nest: Nest) -> Result<(), AllocError>
     ensures { OnOk result (calls.new ≡ calls.old ++ call_of names.now (kind_of op.now) (attr_of op.now) nest) }
 {
-    if is_call(Form::of(op.kind)) {
+    if is_call(form_of(op)) {
         if let Some(call) = call_to(names, &op.attr, nest) {
             calls.push(call)?;
         }

@@ -1,30 +1,15 @@
 //! The level of a module.
 ghost use Rattle.std.specs.Prelude.{◌≡◌};
-ghost use Rattle.op_table.specs.Rows.{place_of};
 ghost use Rattle.ir_verify.specs.Levels.{later, latest, level_of, kinds_at, kinds_in};
 
 use ir_forms::{Func, Level, Op, Region};
 use op_table::row;
 
-fn place(level: Level) -> u8
-    ensures { result ≡ place_of level }
-{
-    match level {
-        Level::Source => 0,
-        Level::Checked => 1,
-        Level::Split => 2,
-        Level::Low => 3,
-    }
-}
-
+/// The later of two levels.
 fn later(level: Level, other: Level) -> Level
     ensures { result ≡ later level other }
 {
-    if place(level) < place(other) {
-        other
-    } else {
-        level
-    }
+    if level < other { other } else { level }
 }
 
 /// The latest of this level and of those from which on the operation and what stands in it stand.

@@ -16,9 +16,7 @@ mod place;
 mod rules;
 mod scope;
 mod site;
-#[cfg(test)]
-mod tests;
-mod types;
+pub mod types;
 mod verdict;
 mod verified;
 mod walk;
@@ -26,7 +24,6 @@ mod walk;
 pub use calls::Call;
 pub use entry::{EntryFault, entry_of};
 pub use fault::{Broken, VerifyKind};
-pub use form::Form;
 pub use outcome::{VerifyFault, verify};
 pub use place::Nest;
 pub use verified::Verified;

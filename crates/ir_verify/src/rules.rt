@@ -6,9 +6,9 @@ ghost use Rattle.ir_verify.specs.Places.{params_of, types_of};
 ghost use Rattle.ir_verify.specs.Sites.{around_of, place_at};
 ghost use Rattle.ir_verify.specs.Forms.{form};
 ghost use Rattle.ir_verify.specs.Types.{same_type, holds, is_element, is_value, dims_of, open_dims, extends, truncates, casts_index};
-ghost use Rattle.ir_verify.specs.Rules.{first_type, is_asked, is_held, group, groups_of, dimensions, first_params, end_around, is_in_place, given_types, end_type_in, end_type, end_length_in, end_length, param_type, result_type, param_length, result_length, select_operand, for_operand, condition_operand, indexes, load_operand, store_operand, dim_operand, member_operand, bound_place, task_operand, operand_fits, operands_asked, written_fits, end_asks, written_asked, task_result, result_fits, types_asked, for_param, while_types, param_fits, params_fit, are_groups, are_task_groups, groups_fit};
+ghost use Rattle.ir_verify.specs.Rules.{first_type, is_asked, is_held, group, groups_of, dimensions, first_params, end_around, is_in_place, given_types, end_type_in, end_type, end_length_in, end_length, param_type, result_type, param_length, result_length, select_operand, for_operand, condition_operand, indexes, load_operand, store_operand, dim_operand, member_operand, bound_place, task_operand, operand_fits, operands_given, operands_asked, written_fits, end_asks, written_asked, task_result, result_fits, types_given, types_asked, for_param, while_types, param_fits, params_fit, are_groups, are_task_groups, groups_fit};
 
-use crate::form::Form;
+use crate::form::{end_asked, ends, form_of};
 use crate::site::{Scene, Site};
 use crate::types::{
     casts_index, extends, holds, is_awaitable, is_element, is_group, is_index, is_memref,
@@ -16,12 +16,7 @@ use crate::types::{
 };
 use ir_forms::{Func, Op, Ty};
 use lists::Items;
-
-fn form_of(op: &Op) -> Form
-    ensures { result ≡ form op.now }
-{
-    Form::of(op.kind)
-}
+use op_table::{Count, Form, row};
 
 /// Whether a type is the first of a list.
 fn is_first(types: &Items<Ty>, t: &Ty) -> bool
@@ -161,7 +156,7 @@ fn end_around(scene: &Scene) -> Form
 {
     match scene.holder {
         None => Form::Return,
-        Some(holder) => form_of(holder).end_asked(scene.region),
+        Some(holder) => end_asked(form_of(holder), scene.region),
     }
 }
 
@@ -169,7 +164,7 @@ fn end_around(scene: &Scene) -> Form
 pub(crate) fn is_in_place(site: &Site) -> bool
     ensures { result ≡ is_in_place (place_at site.now) }
 {
-    site.is_last && end_around(&site.scene).ends(form_of(site.op))
+    site.is_last && ends(end_around(&site.scene), form_of(site.op))
 }
 
 /// The type at a place of what the end of the region round the operation gives.
@@ -274,13 +269,13 @@ fn for_operand(op: &Op, place: usize, t: &Ty) -> bool
     }
 }
 
-fn condition_operand(site: &Site, place: usize, t: &Ty) -> bool
-    ensures { result ≡ condition_operand (place_at site.now) place t.now }
+fn condition_operand(op: &Op, place: usize, t: &Ty) -> bool
+    ensures { result ≡ condition_operand op.now place t.now }
 {
     if place == 0 {
-        !is_in_place(site) || is_truth(t)
+        is_truth(t)
     } else {
-        is_at(&site.op.written, place - 1, t)
+        is_at(&op.written, place - 1, t)
     }
 }
 
@@ -371,7 +366,7 @@ pub(crate) fn operand_fits(site: &Site, place: usize, t: &Ty) -> bool
         Form::Assert | Form::If => is_truth(t),
         Form::Call | Form::TryCall | Form::While => is_at(&op.written, place, t),
         Form::Return | Form::Yield | Form::TaskYield => is_at(&op.written, place, t),
-        Form::Condition => condition_operand(site, place, t),
+        Form::Condition => condition_operand(op, place, t),
         Form::For => for_operand(op, place, t),
         Form::Parallel => dimensions(op) <= bound_place(op, place) || is_index(t),
         Form::Alloc => first_open_rank(&op.types) <= place || is_index(t),
@@ -458,17 +453,11 @@ fn is_triple(count: usize, base: usize) -> bool
     count % 3 == 0 && count / 3 == base
 }
 
-/// Whether there are as many operands as the operation asks.
-pub(crate) fn operands_counted(site: &Site) -> bool
-    ensures { result ≡ length (operands_of site.now.op.now) == operands_asked (form site.now.op.now) (place_at site.now) }
+/// Whether there are as many operands as an operation of this form asks, where its row has no count.
+fn operands_given(op: &Op, count: usize) -> bool
+    ensures { result ≡ count == operands_given (form op.now) op.now }
 {
-    let op = site.op;
-    let count = op.operands.len();
     match form_of(op) {
-        Form::Binary | Form::Compare | Form::Dim | Form::AddToGroup => count == 2,
-        Form::Select => count == 3,
-        Form::Extend | Form::Truncate | Form::IndexCast | Form::Assert | Form::If => count == 1,
-        Form::Dealloc | Form::Await | Form::AwaitAll | Form::CreateGroup => count == 1,
         Form::Call | Form::TryCall | Form::While => count == op.written.len(),
         Form::Return | Form::Yield | Form::TaskYield => count == op.written.len(),
         Form::Condition => exceeds_by(count, op.written.len(), 1),
@@ -478,7 +467,18 @@ pub(crate) fn operands_counted(site: &Site) -> bool
         Form::Load => exceeds_by(count, first_rank(&op.written), 1),
         Form::Store => exceeds_by(count, first_rank(&op.written), 2),
         Form::Execute => exceeds_by(count, op.written.len(), group(op, 0)),
-        Form::Constant | Form::Reduce | Form::Other => count == 0,
+        _ => count == 0,
+    }
+}
+
+/// Whether there are as many operands as the operation asks.
+pub(crate) fn operands_counted(op: &Op) -> bool
+    ensures { result ≡ length (operands_of op.now) == operands_asked op.now }
+{
+    let count = op.operands.len();
+    match row(op.kind).operands {
+        Count::Exactly(asked) => count == asked as usize,
+        Count::Any => operands_given(op, count),
     }
 }
 
@@ -509,20 +509,26 @@ pub(crate) fn written_asked(site: &Site) -> usize
     }
 }
 
-/// How many types the form gives the results.
-pub(crate) fn types_asked(site: &Site) -> usize
-    ensures { result ≡ types_asked (form site.now.op.now) (place_at site.now) }
+/// How many types an operation of this form gives its results, where its row has no count.
+fn types_given(site: &Site) -> usize
+    ensures { result ≡ types_given (form site.now.op.now) (place_at site.now) }
 {
     let op = site.op;
     match form_of(op) {
-        Form::Binary | Form::Compare | Form::Select | Form::Constant | Form::TryCall => 1,
-        Form::Extend | Form::Truncate | Form::IndexCast | Form::CreateGroup => 1,
-        Form::Alloc | Form::Load | Form::Dim | Form::AddToGroup => 1,
         Form::Call => result_length(site.callee, op.types.len()),
-        Form::For | Form::If | Form::While => op.types.len(),
         Form::Execute => op.types.len().max(1),
         Form::Await => { if first_is_value(&op.written) { 1 } else { 0 } }
-        _ => 0,
+        _ => op.types.len(),
+    }
+}
+
+/// How many types the operation gives its results.
+pub(crate) fn types_asked(site: &Site) -> usize
+    ensures { result ≡ types_asked (place_at site.now) }
+{
+    match row(site.op.kind).results {
+        Count::Exactly(asked) => asked as usize,
+        Count::Any => types_given(site),
     }
 }
 

@@ -73,7 +73,7 @@ fn same_payload(p: &ValTy, q: &ValTy) -> bool
 }
 
 /// Whether two types of the grammar are one.
-pub(crate) fn same_type(t: &Ty, u: &Ty) -> bool
+pub fn same_type(t: &Ty, u: &Ty) -> bool
     ensures { result ≡ same_type t.now u.now }
 {
     match (t, u) {
@@ -91,7 +91,7 @@ pub(crate) fn same_type(t: &Ty, u: &Ty) -> bool
 }
 
 /// Whether the second type is what a value of the first one holds.
-pub(crate) fn holds(t: &Ty, u: &Ty) -> bool
+pub fn holds(t: &Ty, u: &Ty) -> bool
     ensures { result ≡ holds t.now u.now }
 {
     match (t, u) {
@@ -126,7 +126,7 @@ fn is_cell(c: CellTy, t: &Ty) -> bool
 }
 
 /// Whether the second type is that of the cells of the first one.
-pub(crate) fn is_element(t: &Ty, u: &Ty) -> bool
+pub fn is_element(t: &Ty, u: &Ty) -> bool
     ensures { result ≡ is_element t.now u.now }
 {
     match t {
@@ -135,25 +135,25 @@ pub(crate) fn is_element(t: &Ty, u: &Ty) -> bool
     }
 }
 
-pub(crate) fn is_number(t: &Ty) -> bool
+pub fn is_number(t: &Ty) -> bool
     ensures { result ≡ is_number t.now }
 {
     matches!(t, Ty::Int(_) | Ty::Index)
 }
 
-pub(crate) fn is_truth(t: &Ty) -> bool
+pub fn is_truth(t: &Ty) -> bool
     ensures { result ≡ is_truth t.now }
 {
     matches!(t, Ty::Int(Width::W1))
 }
 
-pub(crate) fn is_index(t: &Ty) -> bool
+pub fn is_index(t: &Ty) -> bool
     ensures { result ≡ is_index t.now }
 {
     matches!(t, Ty::Index)
 }
 
-pub(crate) fn is_memref(t: &Ty) -> bool
+pub fn is_memref(t: &Ty) -> bool
     ensures { result ≡ is_memref t.now }
 {
     matches!(t, Ty::Memref(_))
@@ -165,26 +165,26 @@ pub(crate) fn is_token(t: &Ty) -> bool
     matches!(t, Ty::Token)
 }
 
-pub(crate) fn is_value(t: &Ty) -> bool
+pub fn is_value(t: &Ty) -> bool
     ensures { result ≡ is_value t.now }
 {
     matches!(t, Ty::Value(_))
 }
 
-pub(crate) fn is_group(t: &Ty) -> bool
+pub fn is_group(t: &Ty) -> bool
     ensures { result ≡ is_group t.now }
 {
     matches!(t, Ty::Group)
 }
 
-pub(crate) fn is_awaitable(t: &Ty) -> bool
+pub fn is_awaitable(t: &Ty) -> bool
     ensures { result ≡ is_awaitable t.now }
 {
     matches!(t, Ty::Token | Ty::Value(_))
 }
 
 /// The number of dimensions of a memref.
-pub(crate) fn rank(t: &Ty) -> usize
+pub fn rank(t: &Ty) -> usize
     ensures { result ≡ length (dims_of t.now) }
 {
     match t {
@@ -194,7 +194,7 @@ pub(crate) fn rank(t: &Ty) -> usize
 }
 
 /// How many sizes of a memref are `?`.
-pub(crate) fn open_rank(t: &Ty) -> usize
+pub fn open_rank(t: &Ty) -> usize
     ensures { result ≡ open_dims (dims_of t.now) }
 {
     match t {
@@ -231,7 +231,7 @@ pub(crate) fn has_async_cells(t: &Ty) -> bool
     }
 }
 
-pub(crate) fn extends(t: &Ty, u: &Ty) -> bool
+pub fn extends(t: &Ty, u: &Ty) -> bool
     ensures { result ≡ extends t.now u.now }
 {
     match (t, u) {
@@ -240,7 +240,7 @@ pub(crate) fn extends(t: &Ty, u: &Ty) -> bool
     }
 }
 
-pub(crate) fn truncates(t: &Ty, u: &Ty) -> bool
+pub fn truncates(t: &Ty, u: &Ty) -> bool
     ensures { result ≡ truncates t.now u.now }
 {
     match (t, u) {
@@ -249,7 +249,7 @@ pub(crate) fn truncates(t: &Ty, u: &Ty) -> bool
     }
 }
 
-pub(crate) fn casts_index(t: &Ty, u: &Ty) -> bool
+pub fn casts_index(t: &Ty, u: &Ty) -> bool
     ensures { result ≡ casts_index t.now u.now }
 {
     matches!((t, u), (Ty::Int(_), Ty::Index) | (Ty::Index, Ty::Int(_)))
@@ -269,7 +269,7 @@ fn fits_width(width: Width, negative: bool, magnitude: u64) -> bool
 }
 
 /// Whether a literal, a truth or a number, has a type and lies in its range.
-pub(crate) fn literal_fits(attr: &Attr, t: &Ty) -> bool
+pub fn literal_fits(attr: &Attr, t: &Ty) -> bool
     ensures { result ≡ literal_fits attr.now t.now }
 {
     match (attr, t) {

@@ -8,20 +8,20 @@ ghost use Rattle.ir_verify.specs.Levels.{level_of};
 use crate::breaks::lacks_end;
 use crate::calls::{is_marked, marks};
 use crate::fault::{Broken, VerifyKind, noted};
-use crate::form::Form;
 use crate::graph::graph_of;
 use crate::level::level_of;
 use crate::names::Names;
 use crate::types::has_async_cells;
 use crate::walk::walk_func;
 use ir_forms::{Func, Level, Ty, ValueNo};
+use op_table::Form;
 use std::alloc::{AllocError, Global};
 
 fn some_async_param(params: &[(ValueNo, Ty)]) -> bool
     ensures { result ≡ some_at param_has_async params.now }
 {
     for (place, param) in params.iter().enumerate() {
-        let _place = place;
+        let _place = place; // counted, since the contract speaks of places
         if has_async_cells(&param.1) {
             return true;
         }
@@ -33,7 +33,7 @@ fn some_async_type(types: &[Ty]) -> bool
     ensures { result ≡ some_at type_has_async types.now }
 {
     for (place, t) in types.iter().enumerate() {
-        let _place = place;
+        let _place = place; // counted, since the contract speaks of places
         if has_async_cells(t) {
             return true;
         }

@@ -1,3 +1,4 @@
+//! Growing lists.
 ghost use Rattle.std.specs.Prelude.{◌≡◌, ◌<◌, ◌++◌, ◌∷◌, [], take, length, slice_get, slice_set, ◌↔◌, IsTrue, IfOk, MatchOption, OnOk, OnErr, OnSome};
 ghost use Rattle.std.specs.Option.{option_copied};
 ghost use Rattle.std.specs.Cmp.Lexicographic.{pointwise, lists_per};
@@ -11,7 +12,7 @@ use std::marker::Model;
 
 /// A growing list. Contracts see it as the list of its elements, so capacity and place stay out of
 /// every theorem.
-#[derive(Debug, Drop)]
+#[derive(Drop)]
 pub struct Items<T> {
     elements: Vec<T>,
 }

@@ -1,4 +1,4 @@
-use crate::{Boxed, Items};
+use crate::Items;
 use std::test::Fail;
 
 #[test]
@@ -23,13 +23,5 @@ fn items_begin_empty(rt: HostRuntime) -> Result<(), Fail> {
     assert!(rt; list.is_empty());
     let list = Items::from_vec(vec![in rt.alloc(); 7u8]?);
     assert_eq!(rt; list.len(), 1);
-    Ok(())
-}
-
-#[test]
-fn a_box_gives_its_value_back(rt: HostRuntime) -> Result<(), Fail> {
-    let boxed = Boxed::new(rt.alloc(), 5u8)?;
-    assert_eq!(rt; *boxed.get(), 5);
-    assert_eq!(rt; boxed.into_inner(), 5);
     Ok(())
 }

@@ -4,7 +4,7 @@ ghost use Rattle.std.specs.Prelude.{◌≡◌, ◌≢◌, ◌<◌, ◌≤◌, le
 ghost use Rattle.mlir_lex.specs.Bytes as spec;
 
 /// The bytes that may stand at one place of a token.
-#[derive(Clone, Copy, Debug)]
+#[derive(Clone, Copy)]
 pub enum ByteClass {
     Blank,
     /// What a comment may hold.

@@ -11,7 +11,7 @@ use crate::kinds::TokenKind;
 use crate::strings::{quoted_len, string_len};
 
 /// What a byte begins.
-#[derive(Clone, Copy, Debug)]
+#[derive(Clone, Copy)]
 pub enum Lead {
     Word,
     Number,
@@ -144,7 +144,7 @@ fn front(text: &[u8], closed: &[bool]) -> Option<(TokenKind, usize)>
 }
 
 /// What stands at one place, with its length in bytes.
-#[derive(Clone, Copy, Debug)]
+#[derive(Clone, Copy)]
 pub enum Item {
     /// A blank or a comment.
     Gap(usize),

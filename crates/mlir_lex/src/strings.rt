@@ -8,7 +8,7 @@ ghost use Rattle.mlir_lex.specs.declared.strings.Escape.TheVariants as escape;
 use crate::bytes::{ByteClass, byte_at};
 
 /// How far an escape has come.
-#[derive(Clone, Copy, Debug)]
+#[derive(Clone, Copy)]
 pub enum Escape {
     Outside,
     /// After its backslash.

@@ -1,7 +1,9 @@
 -- The bytes of each form are ASCII.
 use Rattle.std.proofs.Common.{ℕ, List, [], ◌∷◌, refl, take, drop, slice_get, Option, Some, None, codes}
 use Rattle.op_table.specs.declared.kind.OpKind.{OpKind}
-use Rattle.op_table.specs.declared.kind.OpKind.TheVariants as op
+use Rattle.op_table.specs.declared.form.Form.{Form}
+use Rattle.op_table.specs.declared.form.Form.TheVariants as shape
+use Rattle.op_table.specs.Rows.{row_of}
 use Rattle.ir_forms.specs.declared.ops.Op.{Op}
 use Rattle.ir_forms.specs.declared.ops.ValueNo.{ValueNo}
 use Rattle.ir_forms.specs.declared.ops.Attr.{Attr}
@@ -12,7 +14,7 @@ use Rattle.mlir_print.specs.Docs as doc
 use Rattle.mlir_print.specs.Docs.{Doc, ◌<>◌, mark, comma, colon, equals, arrow, parens, brackets, keyword, more, commas, shown}
 use Rattle.mlir_print.specs.Types.{type_doc, types, result_types, results_if_any}
 use Rattle.mlir_print.specs.Tokens.{value}
-use Rattle.mlir_print.specs.Forms.{types_of, params_at, first_group, second_group, third_group, values, value_at, uses, typed, listed, name_of_param, param, typed_values, init, more_inits, inits, value_operand, more_value_operands, value_operands, carried_word, carried, for_bounds, parallel_bounds, begun, dependencies, constant_type, form}
+use Rattle.mlir_print.specs.Forms.{types_of, params_at, first_group, second_group, third_group, values, value_at, uses, typed, listed, name_of_param, param, typed_values, init, more_inits, inits, value_operand, more_value_operands, value_operands, carried_word, carried, for_bounds, parallel_bounds, begun, dependencies, constant_type, form_doc, form}
 use Rattle.mlir_print.proofs.AsciiWords.{Ascii, seq, ascii-value, ascii-attr, ascii-type}
 
 -- ---- pieces
@@ -136,10 +138,10 @@ ascii-binary o = seq (ascii-uses o) (ascii-typed (types_of o))
 ascii-unary : (o : Op) → Ascii (uses o <> typed (written_of o))
 ascii-unary o = seq (ascii-uses o) (ascii-typed (written_of o))
 
-ascii-compare : (o : Op) → Ascii (form op.ArithCmpi o)
+ascii-compare : (o : Op) → Ascii (form_doc shape.Compare o)
 ascii-compare o = seq ascii-blank (seq (ascii-attr (attr_of o)) (seq ascii-comma (seq (ascii-values (operands_of o)) (ascii-typed (written_of o)))))
 
-ascii-cast : (o : Op) → Ascii (form op.ArithExtsi o)
+ascii-cast : (o : Op) → Ascii (form_doc shape.Extend o)
 ascii-cast o = seq (ascii-uses o) (seq (ascii-typed (written_of o)) (seq ascii-to (ascii-type_at (types_of o))))
 
 ascii-constant_type : (a : Attr) (ts : List Ty) → Ascii (constant_type a ts)
@@ -150,10 +152,10 @@ ascii-constant_type (attr.Pred p) ts = ascii-typed ts
 ascii-constant_type (attr.Text t) ts = ascii-typed ts
 ascii-constant_type (attr.Callee t) ts = ascii-typed ts
 
-ascii-constant : (o : Op) → Ascii (form op.ArithConstant o)
+ascii-constant : (o : Op) → Ascii (form_doc shape.Constant o)
 ascii-constant o = seq ascii-blank (seq (ascii-attr (attr_of o)) (ascii-constant_type (attr_of o) (types_of o)))
 
-ascii-call : (o : Op) → Ascii (form op.FuncCall o)
+ascii-call : (o : Op) → Ascii (form_doc shape.Call o)
 ascii-call o =
     seq ascii-blank (seq (ascii-attr (attr_of o)) (seq (ascii-parens (ascii-values (operands_of o)))
     (seq (ascii-listed (written_of o)) (seq ascii-arrow (ascii-result_types (types_of o))))))
@@ -167,7 +169,7 @@ ascii-carried (t ∷ ts) ps vs =
 ascii-for_bounds : (vs : List ValueNo) → Ascii (for_bounds vs)
 ascii-for_bounds vs = seq (ascii-value_at vs 0) (seq ascii-to (seq (ascii-value_at vs 1) (seq ascii-step (ascii-value_at vs 2))))
 
-ascii-for : (o : Op) → Ascii (form op.ScfFor o)
+ascii-for : (o : Op) → Ascii (form_doc shape.For o)
 ascii-for o =
     seq ascii-blank (seq (ascii-shown name_of_param ascii-name (slice_get (params_at o 0) 0))
     (seq ascii-equals (seq (ascii-for_bounds (operands_of o)) (ascii-carried (types_of o) (drop 1 (params_at o 0)) (drop 3 (operands_of o))))))
@@ -176,7 +178,7 @@ ascii-begun : (ps : List (ValueNo × Ty)) (vs : List ValueNo) → Ascii (begun p
 ascii-begun ps [] = ascii-empty
 ascii-begun ps (v ∷ vs) = seq ascii-blank (ascii-parens (ascii-inits ps (v ∷ vs)))
 
-ascii-while : (o : Op) → Ascii (form op.ScfWhile o)
+ascii-while : (o : Op) → Ascii (form_doc shape.While o)
 ascii-while o = seq (ascii-begun (params_at o 0) (operands_of o)) (seq (ascii-listed (written_of o)) (seq ascii-arrow (ascii-result_types (types_of o))))
 
 ascii-parallel_bounds : (o : Op) → Ascii (parallel_bounds o)
@@ -184,74 +186,60 @@ ascii-parallel_bounds o =
     seq (ascii-parens (ascii-values (first_group o))) (seq ascii-to
     (seq (ascii-parens (ascii-values (second_group o))) (seq ascii-step (ascii-parens (ascii-values (third_group o))))))
 
-ascii-parallel : (o : Op) → Ascii (form op.ScfParallel o)
+ascii-parallel : (o : Op) → Ascii (form_doc shape.Parallel o)
 ascii-parallel o =
     seq ascii-blank (seq (ascii-parens (ascii-commas name_of_param ascii-name (params_at o 0))) (seq ascii-equals (ascii-parallel_bounds o)))
 
-ascii-condition : (o : Op) → Ascii (form op.ScfCondition o)
+ascii-condition : (o : Op) → Ascii (form_doc shape.Condition o)
 ascii-condition o = seq (ascii-parens (ascii-value_at (operands_of o) 0)) (ascii-typed_values (drop 1 (operands_of o)) (written_of o))
 
 ascii-dependencies : (vs : List ValueNo) → Ascii (dependencies vs)
 ascii-dependencies [] = ascii-empty
 ascii-dependencies (v ∷ vs) = seq ascii-blank (ascii-brackets (ascii-values (v ∷ vs)))
 
-ascii-execute : (o : Op) → Ascii (form op.AsyncExecute o)
+ascii-execute : (o : Op) → Ascii (form_doc shape.Execute o)
 ascii-execute o =
     seq (ascii-dependencies (first_group o)) (seq (ascii-operands (second_group o) (params_at o 0) (written_of o)) (ascii-results (drop 1 (types_of o))))
 
-ascii-load : (o : Op) → Ascii (form op.MemrefLoad o)
+ascii-load : (o : Op) → Ascii (form_doc shape.Load o)
 ascii-load o =
     seq ascii-blank (seq (ascii-value_at (operands_of o) 0) (seq (ascii-brackets (ascii-values (drop 1 (operands_of o)))) (ascii-typed (written_of o))))
 
-ascii-store : (o : Op) → Ascii (form op.MemrefStore o)
+ascii-store : (o : Op) → Ascii (form_doc shape.Store o)
 ascii-store o =
     seq ascii-blank (seq (ascii-values (take 2 (operands_of o))) (seq (ascii-brackets (ascii-values (drop 2 (operands_of o)))) (ascii-typed (written_of o))))
 
+ascii-parts : (f : Form) (o : Op) → Ascii (form_doc f o)
+ascii-parts shape.Binary o = ascii-binary o
+ascii-parts shape.Compare o = ascii-compare o
+ascii-parts shape.Select o = ascii-binary o
+ascii-parts shape.Extend o = ascii-cast o
+ascii-parts shape.Truncate o = ascii-cast o
+ascii-parts shape.IndexCast o = ascii-cast o
+ascii-parts shape.Constant o = ascii-constant o
+ascii-parts shape.Assert o = seq (ascii-uses o) (seq ascii-comma (ascii-attr (attr_of o)))
+ascii-parts shape.Call o = ascii-call o
+ascii-parts shape.TryCall o = ascii-call o
+ascii-parts shape.Return o = ascii-typed_values (operands_of o) (written_of o)
+ascii-parts shape.For o = ascii-for o
+ascii-parts shape.If o = seq (ascii-uses o) (ascii-results (types_of o))
+ascii-parts shape.While o = ascii-while o
+ascii-parts shape.Condition o = ascii-condition o
+ascii-parts shape.Parallel o = ascii-parallel o
+ascii-parts shape.Reduce o = ascii-empty
+ascii-parts shape.Yield o = ascii-typed_values (operands_of o) (written_of o)
+ascii-parts shape.Alloc o = seq (ascii-parens (ascii-values (operands_of o))) (ascii-typed (types_of o))
+ascii-parts shape.Dealloc o = ascii-unary o
+ascii-parts shape.Load o = ascii-load o
+ascii-parts shape.Store o = ascii-store o
+ascii-parts shape.Dim o = ascii-unary o
+ascii-parts shape.Execute o = ascii-execute o
+ascii-parts shape.TaskYield o = ascii-typed_values (operands_of o) (written_of o)
+ascii-parts shape.Await o = ascii-unary o
+ascii-parts shape.AwaitAll o = ascii-uses o
+ascii-parts shape.CreateGroup o = ascii-binary o
+ascii-parts shape.AddToGroup o = ascii-unary o
+ascii-parts shape.Other o = ascii-empty
+
 pub ascii-form : (k : OpKind) (o : Op) → Ascii (form k o)
-ascii-form op.AioTryCall o = ascii-call o
-ascii-form op.ArithAddi o = ascii-binary o
-ascii-form op.ArithAndi o = ascii-binary o
-ascii-form op.ArithCmpi o = ascii-compare o
-ascii-form op.ArithConstant o = ascii-constant o
-ascii-form op.ArithDivsi o = ascii-binary o
-ascii-form op.ArithDivui o = ascii-binary o
-ascii-form op.ArithExtsi o = ascii-cast o
-ascii-form op.ArithExtui o = ascii-cast o
-ascii-form op.ArithIndexCast o = ascii-cast o
-ascii-form op.ArithIndexCastui o = ascii-cast o
-ascii-form op.ArithMaxsi o = ascii-binary o
-ascii-form op.ArithMaxui o = ascii-binary o
-ascii-form op.ArithMinsi o = ascii-binary o
-ascii-form op.ArithMinui o = ascii-binary o
-ascii-form op.ArithMuli o = ascii-binary o
-ascii-form op.ArithOri o = ascii-binary o
-ascii-form op.ArithRemsi o = ascii-binary o
-ascii-form op.ArithRemui o = ascii-binary o
-ascii-form op.ArithSelect o = ascii-binary o
-ascii-form op.ArithShli o = ascii-binary o
-ascii-form op.ArithShrsi o = ascii-binary o
-ascii-form op.ArithShrui o = ascii-binary o
-ascii-form op.ArithSubi o = ascii-binary o
-ascii-form op.ArithTrunci o = ascii-cast o
-ascii-form op.ArithXori o = ascii-binary o
-ascii-form op.AsyncAddToGroup o = ascii-unary o
-ascii-form op.AsyncAwait o = ascii-unary o
-ascii-form op.AsyncAwaitAll o = ascii-uses o
-ascii-form op.AsyncCreateGroup o = ascii-binary o
-ascii-form op.AsyncExecute o = ascii-execute o
-ascii-form op.AsyncYield o = ascii-typed_values (operands_of o) (written_of o)
-ascii-form op.CfAssert o = seq (ascii-uses o) (seq ascii-comma (ascii-attr (attr_of o)))
-ascii-form op.FuncCall o = ascii-call o
-ascii-form op.FuncReturn o = ascii-typed_values (operands_of o) (written_of o)
-ascii-form op.MemrefAlloc o = seq (ascii-parens (ascii-values (operands_of o))) (ascii-typed (types_of o))
-ascii-form op.MemrefDealloc o = ascii-unary o
-ascii-form op.MemrefDim o = ascii-unary o
-ascii-form op.MemrefLoad o = ascii-load o
-ascii-form op.MemrefStore o = ascii-store o
-ascii-form op.ScfCondition o = ascii-condition o
-ascii-form op.ScfFor o = ascii-for o
-ascii-form op.ScfIf o = seq (ascii-uses o) (ascii-results (types_of o))
-ascii-form op.ScfParallel o = ascii-parallel o
-ascii-form op.ScfWhile o = ascii-while o
-ascii-form op.ScfYield o = ascii-typed_values (operands_of o) (written_of o)
-ascii-form _ o = ascii-empty
+ascii-form k o = ascii-parts (row_of k).form o

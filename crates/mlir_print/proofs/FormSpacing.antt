@@ -2,7 +2,9 @@
 use Rattle.std.proofs.Common.{ℕ, List, [], ◌∷◌, refl, take, drop, slice_get, codes}
 use Rattle.mlir_lex.specs.Bytes.{is_in}
 use Rattle.op_table.specs.declared.kind.OpKind.{OpKind}
-use Rattle.op_table.specs.declared.kind.OpKind.TheVariants as op
+use Rattle.op_table.specs.declared.form.Form.{Form}
+use Rattle.op_table.specs.declared.form.Form.TheVariants as shape
+use Rattle.op_table.specs.Rows.{row_of}
 use Rattle.ir_forms.specs.declared.ops.Op.{Op}
 use Rattle.ir_forms.specs.declared.ops.ValueNo.{ValueNo}
 use Rattle.ir_forms.specs.declared.ops.Attr.{Attr}
@@ -12,7 +14,7 @@ use Rattle.ir_forms.specs.Ops.{operands_of, written_of, attr_of}
 use Rattle.mlir_print.specs.Docs.{◌<>◌, shown}
 use Rattle.mlir_print.specs.Types.{type_doc, types, result_types, results_if_any}
 use Rattle.mlir_print.specs.Tokens.{value}
-use Rattle.mlir_print.specs.Forms.{types_of, params_at, first_group, second_group, third_group, values, value_at, uses, typed, listed, name_of_param, param, typed_values, init, more_inits, inits, value_operand, more_value_operands, value_operands, carried_word, carried, for_bounds, parallel_bounds, begun, dependencies, constant_type, form}
+use Rattle.mlir_print.specs.Forms.{types_of, params_at, first_group, second_group, third_group, values, value_at, uses, typed, listed, name_of_param, param, typed_values, init, more_inits, inits, value_operand, more_value_operands, value_operands, carried_word, carried, for_bounds, parallel_bounds, begun, dependencies, constant_type, form_doc, form}
 use Rattle.mlir_print.proofs.Separators.{Fits, Good, good_empty, behind, seq, good_fits, fits_parens, fits_brackets, blank_first, colon_first, equals_first, arrow_first, comma_first, keyword_first, good_parens, good_brackets, fits_commas, fits_shown, fits_word}
 use Rattle.mlir_print.proofs.Words.{fits_value, fits_attr, fits_type}
 
@@ -95,10 +97,10 @@ good_binary o = seq (good_uses o) (good_typed (types_of o))
 good_unary : (o : Op) → Good (uses o <> typed (written_of o))
 good_unary o = seq (good_uses o) (good_typed (written_of o))
 
-good_compare : (o : Op) → Good (form op.ArithCmpi o)
+good_compare : (o : Op) → Good (form_doc shape.Compare o)
 good_compare o = blank_first (behind (fits_attr (attr_of o)) (comma_first (behind (fits_values (operands_of o)) (good_typed (written_of o)))))
 
-good_cast : (o : Op) → Good (form op.ArithExtsi o)
+good_cast : (o : Op) → Good (form_doc shape.Extend o)
 unfolding is_in
 good_cast o = seq (good_uses o) (seq (good_typed (written_of o)) (keyword_first (codes "to") refl (fits_type_at (types_of o))))
 
@@ -110,10 +112,10 @@ good_constant_type (attr.Pred p) ts = good_typed ts
 good_constant_type (attr.Text t) ts = good_typed ts
 good_constant_type (attr.Callee t) ts = good_typed ts
 
-good_constant : (o : Op) → Good (form op.ArithConstant o)
+good_constant : (o : Op) → Good (form_doc shape.Constant o)
 good_constant o = blank_first (behind (fits_attr (attr_of o)) (good_constant_type (attr_of o) (types_of o)))
 
-good_call : (o : Op) → Good (form op.FuncCall o)
+good_call : (o : Op) → Good (form_doc shape.Call o)
 good_call o =
     blank_first (behind (fits_attr (attr_of o)) (seq (good_parens (fits_values (operands_of o)))
     (seq (good_listed (written_of o)) (arrow_first (fits_result_types (types_of o))))))
@@ -129,7 +131,7 @@ unfolding is_in
 fits_for_bounds vs =
     behind (fits_value_at vs 0) (keyword_first (codes "to") refl (behind (fits_value_at vs 1) (keyword_first (codes "step") refl (fits_value_at vs 2))))
 
-good_for : (o : Op) → Good (form op.ScfFor o)
+good_for : (o : Op) → Good (form_doc shape.For o)
 good_for o =
     blank_first (behind (fits_shown name_of_param fits_name (slice_get (params_at o 0) 0))
     (equals_first (behind (fits_for_bounds (operands_of o)) (good_carried (types_of o) (drop 1 (params_at o 0)) (drop 3 (operands_of o))))))
@@ -138,7 +140,7 @@ good_begun : (ps : List (ValueNo × Ty)) (vs : List ValueNo) → Good (begun ps 
 good_begun ps [] = good_empty
 good_begun ps (v ∷ vs) = blank_first (fits_parens (fits_inits ps (v ∷ vs)))
 
-good_while : (o : Op) → Good (form op.ScfWhile o)
+good_while : (o : Op) → Good (form_doc shape.While o)
 good_while o = seq (good_begun (params_at o 0) (operands_of o)) (seq (good_listed (written_of o)) (arrow_first (fits_result_types (types_of o))))
 
 fits_parallel_bounds : (o : Op) → Fits (parallel_bounds o)
@@ -147,109 +149,69 @@ fits_parallel_bounds o =
     behind (fits_parens (fits_values (first_group o))) (keyword_first (codes "to") refl
     (behind (fits_parens (fits_values (second_group o))) (keyword_first (codes "step") refl (fits_parens (fits_values (third_group o))))))
 
-good_parallel : (o : Op) → Good (form op.ScfParallel o)
+good_parallel : (o : Op) → Good (form_doc shape.Parallel o)
 good_parallel o =
     blank_first (behind (fits_parens (fits_commas name_of_param fits_name (params_at o 0))) (equals_first (fits_parallel_bounds o)))
 
-good_condition : (o : Op) → Good (form op.ScfCondition o)
+good_condition : (o : Op) → Good (form_doc shape.Condition o)
 good_condition o = seq (good_parens (fits_value_at (operands_of o) 0)) (good_typed_values (drop 1 (operands_of o)) (written_of o))
 
 good_dependencies : (vs : List ValueNo) → Good (dependencies vs)
 good_dependencies [] = good_empty
 good_dependencies (v ∷ vs) = blank_first (fits_brackets (fits_values (v ∷ vs)))
 
-good_execute : (o : Op) → Good (form op.AsyncExecute o)
+good_execute : (o : Op) → Good (form_doc shape.Execute o)
 good_execute o =
     seq (good_dependencies (first_group o)) (seq (good_value_operands (second_group o) (params_at o 0) (written_of o)) (good_results (drop 1 (types_of o))))
 
-good_load : (o : Op) → Good (form op.MemrefLoad o)
+good_load : (o : Op) → Good (form_doc shape.Load o)
 good_load o =
     blank_first (behind (fits_value_at (operands_of o) 0) (seq (good_brackets (fits_values (drop 1 (operands_of o)))) (good_typed (written_of o))))
 
-good_store : (o : Op) → Good (form op.MemrefStore o)
+good_store : (o : Op) → Good (form_doc shape.Store o)
 good_store o =
     blank_first (behind (fits_values (take 2 (operands_of o))) (seq (good_brackets (fits_values (drop 2 (operands_of o)))) (good_typed (written_of o))))
 
-good_assert : (o : Op) → Good (form op.CfAssert o)
+good_assert : (o : Op) → Good (form_doc shape.Assert o)
 good_assert o = seq (good_uses o) (comma_first (fits_attr (attr_of o)))
 
-good_alloc : (o : Op) → Good (form op.MemrefAlloc o)
+good_alloc : (o : Op) → Good (form_doc shape.Alloc o)
 good_alloc o = seq (good_parens (fits_values (operands_of o))) (good_typed (types_of o))
 
-good_if : (o : Op) → Good (form op.ScfIf o)
+good_if : (o : Op) → Good (form_doc shape.If o)
 good_if o = seq (good_uses o) (good_results (types_of o))
 
+good_parts : (f : Form) (o : Op) → Good (form_doc f o)
+good_parts shape.Binary o = good_binary o
+good_parts shape.Compare o = good_compare o
+good_parts shape.Select o = good_binary o
+good_parts shape.Extend o = good_cast o
+good_parts shape.Truncate o = good_cast o
+good_parts shape.IndexCast o = good_cast o
+good_parts shape.Constant o = good_constant o
+good_parts shape.Assert o = good_assert o
+good_parts shape.Call o = good_call o
+good_parts shape.TryCall o = good_call o
+good_parts shape.Return o = good_typed_values (operands_of o) (written_of o)
+good_parts shape.For o = good_for o
+good_parts shape.If o = good_if o
+good_parts shape.While o = good_while o
+good_parts shape.Condition o = good_condition o
+good_parts shape.Parallel o = good_parallel o
+good_parts shape.Reduce o = good_empty
+good_parts shape.Yield o = good_typed_values (operands_of o) (written_of o)
+good_parts shape.Alloc o = good_alloc o
+good_parts shape.Dealloc o = good_unary o
+good_parts shape.Load o = good_load o
+good_parts shape.Store o = good_store o
+good_parts shape.Dim o = good_unary o
+good_parts shape.Execute o = good_execute o
+good_parts shape.TaskYield o = good_typed_values (operands_of o) (written_of o)
+good_parts shape.Await o = good_unary o
+good_parts shape.AwaitAll o = good_uses o
+good_parts shape.CreateGroup o = good_binary o
+good_parts shape.AddToGroup o = good_unary o
+good_parts shape.Other o = good_empty
+
 pub good_form : (k : OpKind) (o : Op) → Good (form k o)
-good_form op.AioCall o = good_empty
-good_form op.AioFail o = good_empty
-good_form op.AioFinish o = good_empty
-good_form op.AioTryCall o = good_call o
-good_form op.ArithAddi o = good_binary o
-good_form op.ArithAndi o = good_binary o
-good_form op.ArithCmpi o = good_compare o
-good_form op.ArithConstant o = good_constant o
-good_form op.ArithDivsi o = good_binary o
-good_form op.ArithDivui o = good_binary o
-good_form op.ArithExtsi o = good_cast o
-good_form op.ArithExtui o = good_cast o
-good_form op.ArithIndexCast o = good_cast o
-good_form op.ArithIndexCastui o = good_cast o
-good_form op.ArithMaxsi o = good_binary o
-good_form op.ArithMaxui o = good_binary o
-good_form op.ArithMinsi o = good_binary o
-good_form op.ArithMinui o = good_binary o
-good_form op.ArithMuli o = good_binary o
-good_form op.ArithOri o = good_binary o
-good_form op.ArithRemsi o = good_binary o
-good_form op.ArithRemui o = good_binary o
-good_form op.ArithSelect o = good_binary o
-good_form op.ArithShli o = good_binary o
-good_form op.ArithShrsi o = good_binary o
-good_form op.ArithShrui o = good_binary o
-good_form op.ArithSubi o = good_binary o
-good_form op.ArithTrunci o = good_cast o
-good_form op.ArithXori o = good_binary o
-good_form op.AsyncAddToGroup o = good_unary o
-good_form op.AsyncAwait o = good_unary o
-good_form op.AsyncAwaitAll o = good_uses o
-good_form op.AsyncCoroBegin o = good_empty
-good_form op.AsyncCoroEnd o = good_empty
-good_form op.AsyncCoroFree o = good_empty
-good_form op.AsyncCoroId o = good_empty
-good_form op.AsyncCoroSave o = good_empty
-good_form op.AsyncCoroSuspend o = good_empty
-good_form op.AsyncCreateGroup o = good_binary o
-good_form op.AsyncExecute o = good_execute o
-good_form op.AsyncRuntimeAddRef o = good_empty
-good_form op.AsyncRuntimeAddToGroup o = good_empty
-good_form op.AsyncRuntimeAwait o = good_empty
-good_form op.AsyncRuntimeAwaitAndResume o = good_empty
-good_form op.AsyncRuntimeCreate o = good_empty
-good_form op.AsyncRuntimeCreateGroup o = good_empty
-good_form op.AsyncRuntimeDropRef o = good_empty
-good_form op.AsyncRuntimeIsError o = good_empty
-good_form op.AsyncRuntimeLoad o = good_empty
-good_form op.AsyncRuntimeResume o = good_empty
-good_form op.AsyncRuntimeSetAvailable o = good_empty
-good_form op.AsyncRuntimeSetError o = good_empty
-good_form op.AsyncRuntimeStore o = good_empty
-good_form op.AsyncYield o = good_typed_values (operands_of o) (written_of o)
-good_form op.CfAssert o = good_assert o
-good_form op.CfBr o = good_empty
-good_form op.CfCondBr o = good_empty
-good_form op.FuncCall o = good_call o
-good_form op.FuncFunc o = good_empty
-good_form op.FuncReturn o = good_typed_values (operands_of o) (written_of o)
-good_form op.MemrefAlloc o = good_alloc o
-good_form op.MemrefDealloc o = good_unary o
-good_form op.MemrefDim o = good_unary o
-good_form op.MemrefLoad o = good_load o
-good_form op.MemrefStore o = good_store o
-good_form op.BuiltinModule o = good_empty
-good_form op.ScfCondition o = good_condition o
-good_form op.ScfFor o = good_for o
-good_form op.ScfIf o = good_if o
-good_form op.ScfParallel o = good_parallel o
-good_form op.ScfReduce o = good_empty
-good_form op.ScfWhile o = good_while o
-good_form op.ScfYield o = good_typed_values (operands_of o) (written_of o)
+good_form k o = good_parts (row_of k).form o

@@ -1,7 +1,9 @@
 -- The forms of operations: what stands behind an operation's name, up to its regions.
 use Rattle.std.specs.Prelude.{ℕ, List, [], ◌∷◌, take, drop, slice_get, Option, Some, None, unwrap_or, codes}
 use Rattle.op_table.specs.declared.kind.OpKind.{OpKind}
-use Rattle.op_table.specs.declared.kind.OpKind.TheVariants as op
+use Rattle.op_table.specs.declared.form.Form.{Form}
+use Rattle.op_table.specs.declared.form.Form.TheVariants as shape
+use Rattle.op_table.specs.Rows.{row_of}
 use Rattle.ir_forms.specs.declared.ops.Op.{Op, out-Op}
 use Rattle.ir_forms.specs.declared.ops.Region.{Region, out-Region}
 use Rattle.ir_forms.specs.declared.ops.ValueNo.{ValueNo}
@@ -175,52 +177,39 @@ abbrev pub store_form : Op → Doc
 store_form o =
     Blank <> values (take 2 (operands_of o)) <> brackets (values (drop 2 (operands_of o))) <> typed (written_of o)
 
--- what stands behind the name of an operation of this kind, up to its regions
+-- what stands behind the name of an operation of this form, up to its regions
+abbrev pub form_doc : Form → Op → Doc
+form_doc shape.Binary o = uses o <> typed (types_of o)
+form_doc shape.Compare o = compare_form o
+form_doc shape.Select o = uses o <> typed (types_of o)
+form_doc shape.Extend o = cast_form o
+form_doc shape.Truncate o = cast_form o
+form_doc shape.IndexCast o = cast_form o
+form_doc shape.Constant o = constant_form o
+form_doc shape.Assert o = uses o <> comma <> attr_doc (attr_of o)
+form_doc shape.Call o = call_form o
+form_doc shape.TryCall o = call_form o
+form_doc shape.Return o = typed_values (operands_of o) (written_of o)
+form_doc shape.For o = for_form o
+form_doc shape.If o = uses o <> results_if_any (types_of o)
+form_doc shape.While o = while_form o
+form_doc shape.Condition o = condition_form o
+form_doc shape.Parallel o = parallel_form o
+form_doc shape.Reduce o = Empty
+form_doc shape.Yield o = typed_values (operands_of o) (written_of o)
+form_doc shape.Alloc o = parens (values (operands_of o)) <> typed (types_of o)
+form_doc shape.Dealloc o = uses o <> typed (written_of o)
+form_doc shape.Load o = load_form o
+form_doc shape.Store o = store_form o
+form_doc shape.Dim o = uses o <> typed (written_of o)
+form_doc shape.Execute o = execute_form o
+form_doc shape.TaskYield o = typed_values (operands_of o) (written_of o)
+form_doc shape.Await o = uses o <> typed (written_of o)
+form_doc shape.AwaitAll o = uses o
+form_doc shape.CreateGroup o = uses o <> typed (types_of o)
+form_doc shape.AddToGroup o = uses o <> typed (written_of o)
+form_doc shape.Other o = Empty
+
+-- what stands behind the name of an operation of this kind
 abbrev pub form : OpKind → Op → Doc
-form op.AioTryCall o = call_form o
-form op.ArithAddi o = uses o <> typed (types_of o)
-form op.ArithAndi o = uses o <> typed (types_of o)
-form op.ArithCmpi o = compare_form o
-form op.ArithConstant o = constant_form o
-form op.ArithDivsi o = uses o <> typed (types_of o)
-form op.ArithDivui o = uses o <> typed (types_of o)
-form op.ArithExtsi o = cast_form o
-form op.ArithExtui o = cast_form o
-form op.ArithIndexCast o = cast_form o
-form op.ArithIndexCastui o = cast_form o
-form op.ArithMaxsi o = uses o <> typed (types_of o)
-form op.ArithMaxui o = uses o <> typed (types_of o)
-form op.ArithMinsi o = uses o <> typed (types_of o)
-form op.ArithMinui o = uses o <> typed (types_of o)
-form op.ArithMuli o = uses o <> typed (types_of o)
-form op.ArithOri o = uses o <> typed (types_of o)
-form op.ArithRemsi o = uses o <> typed (types_of o)
-form op.ArithRemui o = uses o <> typed (types_of o)
-form op.ArithSelect o = uses o <> typed (types_of o)
-form op.ArithShli o = uses o <> typed (types_of o)
-form op.ArithShrsi o = uses o <> typed (types_of o)
-form op.ArithShrui o = uses o <> typed (types_of o)
-form op.ArithSubi o = uses o <> typed (types_of o)
-form op.ArithTrunci o = cast_form o
-form op.ArithXori o = uses o <> typed (types_of o)
-form op.AsyncAddToGroup o = uses o <> typed (written_of o)
-form op.AsyncAwait o = uses o <> typed (written_of o)
-form op.AsyncAwaitAll o = uses o
-form op.AsyncCreateGroup o = uses o <> typed (types_of o)
-form op.AsyncExecute o = execute_form o
-form op.AsyncYield o = typed_values (operands_of o) (written_of o)
-form op.CfAssert o = uses o <> comma <> attr_doc (attr_of o)
-form op.FuncCall o = call_form o
-form op.FuncReturn o = typed_values (operands_of o) (written_of o)
-form op.MemrefAlloc o = parens (values (operands_of o)) <> typed (types_of o)
-form op.MemrefDealloc o = uses o <> typed (written_of o)
-form op.MemrefDim o = uses o <> typed (written_of o)
-form op.MemrefLoad o = load_form o
-form op.MemrefStore o = store_form o
-form op.ScfCondition o = condition_form o
-form op.ScfFor o = for_form o
-form op.ScfIf o = uses o <> results_if_any (types_of o)
-form op.ScfParallel o = parallel_form o
-form op.ScfWhile o = while_form o
-form op.ScfYield o = typed_values (operands_of o) (written_of o)
-form _ o = Empty
+form k o = form_doc (row_of k).form o

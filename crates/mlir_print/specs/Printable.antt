@@ -7,7 +7,9 @@ use Rattle.int_ops.specs.declared.Pred.{Pred}
 use Rattle.op_table.specs.declared.kind.OpKind.{OpKind}
 use Rattle.op_table.specs.declared.kind.OpKind.TheVariants as op
 use Rattle.op_table.specs.declared.rows.Level.{Level}
-use Rattle.op_table.specs.Rows.{stands_at}
+use Rattle.op_table.specs.declared.form.Form.{Form}
+use Rattle.op_table.specs.declared.form.Form.TheVariants as shape
+use Rattle.op_table.specs.Rows.{row_of, stands_at}
 use Rattle.ir_forms.specs.declared.ops.Op.{Op, out-Op}
 use Rattle.ir_forms.specs.declared.ops.Region.{Region, out-Region}
 use Rattle.ir_forms.specs.declared.ops.Func.{Func}
@@ -163,56 +165,42 @@ IsExecute o =
     (n : ℕ) × (ws : List Ty) × (ts : List Ty) × (n < 2 ^ 32) × (length ws < 2 ^ 32) × AreWritten ws × AreWritten ts
     × Has o (n + length ws) attr.None (n ∷ length ws ∷ []) ws (ty.Token ∷ ts) (map payload ws ∷ [])
 
+-- an operation of this form has what the form writes
+abbrev pub HasParts : Form → Op → Type 0
+HasParts shape.Binary o = IsBinary 2 o
+HasParts shape.Compare o = (p : Pred) × (t : Ty) × IsWritten t × Has o 2 (attr.Pred p) [] (t ∷ t ∷ []) (ty.Int W1 ∷ []) []
+HasParts shape.Select o = IsBinary 3 o
+HasParts shape.Extend o = IsCast o
+HasParts shape.Truncate o = IsCast o
+HasParts shape.IndexCast o = IsCast o
+HasParts shape.Constant o = IsConstant o
+HasParts shape.Assert o = (text : List ℕ) × AreBytes text × Has o 1 (attr.Text text) [] [] [] []
+HasParts shape.Call o = IsCall (λ us. ⊤) o
+HasParts shape.TryCall o = IsCall (λ us. us ≡ ty.Int W1 ∷ []) o
+HasParts shape.Return o = IsYield 0 o
+HasParts shape.For o = IsFor o
+HasParts shape.If o = (ts : List Ty) × AreWritten ts × Has o 1 attr.None [] [] ts ([] ∷ [] ∷ [])
+HasParts shape.While o = IsWhile o
+HasParts shape.Condition o = IsYield 1 o
+HasParts shape.Parallel o = IsParallel o
+HasParts shape.Reduce o = Has o 0 attr.None [] [] [] []
+HasParts shape.Yield o = IsYield 0 o
+HasParts shape.Alloc o = (m : MemTy) × IsWrittenMemref m × Has o (length (operands_of o)) attr.None [] [] (ty.Memref m ∷ []) []
+HasParts shape.Dealloc o = (m : MemTy) × IsWrittenMemref m × Has o 1 attr.None [] (ty.Memref m ∷ []) [] []
+HasParts shape.Load o = (m : MemTy) × (n : ℕ) × IsWrittenMemref m × Has o (n + 1) attr.None [] (ty.Memref m ∷ []) (cell_type m.elem ∷ []) []
+HasParts shape.Store o = (m : MemTy) × (n : ℕ) × IsWrittenMemref m × Has o (n + 2) attr.None [] (ty.Memref m ∷ []) [] []
+HasParts shape.Dim o = (m : MemTy) × IsWrittenMemref m × Has o 2 attr.None [] (ty.Memref m ∷ []) (ty.Index ∷ []) []
+HasParts shape.Execute o = IsExecute o
+HasParts shape.TaskYield o = IsYield 0 o
+HasParts shape.Await o = (t : Ty) × IsWritten t × Has o 1 attr.None [] (t ∷ []) (payloads t) []
+HasParts shape.AwaitAll o = Has o 1 attr.None [] [] [] []
+HasParts shape.CreateGroup o = Has o 1 attr.None [] [] (ty.Group ∷ []) []
+HasParts shape.AddToGroup o = (t : Ty) × IsWritten t × Has o 2 attr.None [] (t ∷ []) (ty.Index ∷ []) []
+HasParts shape.Other o = ⊥
+
 -- an operation of this kind has what its form writes
 abbrev pub HasForm : OpKind → Op → Type 0
-HasForm op.AioTryCall o = IsCall (λ us. us ≡ ty.Int W1 ∷ []) o
-HasForm op.ArithAddi o = IsBinary 2 o
-HasForm op.ArithAndi o = IsBinary 2 o
-HasForm op.ArithCmpi o = (p : Pred) × (t : Ty) × IsWritten t × Has o 2 (attr.Pred p) [] (t ∷ t ∷ []) (ty.Int W1 ∷ []) []
-HasForm op.ArithConstant o = IsConstant o
-HasForm op.ArithDivsi o = IsBinary 2 o
-HasForm op.ArithDivui o = IsBinary 2 o
-HasForm op.ArithExtsi o = IsCast o
-HasForm op.ArithExtui o = IsCast o
-HasForm op.ArithIndexCast o = IsCast o
-HasForm op.ArithIndexCastui o = IsCast o
-HasForm op.ArithMaxsi o = IsBinary 2 o
-HasForm op.ArithMaxui o = IsBinary 2 o
-HasForm op.ArithMinsi o = IsBinary 2 o
-HasForm op.ArithMinui o = IsBinary 2 o
-HasForm op.ArithMuli o = IsBinary 2 o
-HasForm op.ArithOri o = IsBinary 2 o
-HasForm op.ArithRemsi o = IsBinary 2 o
-HasForm op.ArithRemui o = IsBinary 2 o
-HasForm op.ArithSelect o = IsBinary 3 o
-HasForm op.ArithShli o = IsBinary 2 o
-HasForm op.ArithShrsi o = IsBinary 2 o
-HasForm op.ArithShrui o = IsBinary 2 o
-HasForm op.ArithSubi o = IsBinary 2 o
-HasForm op.ArithTrunci o = IsCast o
-HasForm op.ArithXori o = IsBinary 2 o
-HasForm op.AsyncAddToGroup o = (t : Ty) × IsWritten t × Has o 2 attr.None [] (t ∷ []) (ty.Index ∷ []) []
-HasForm op.AsyncAwait o = (t : Ty) × IsWritten t × Has o 1 attr.None [] (t ∷ []) (payloads t) []
-HasForm op.AsyncAwaitAll o = Has o 1 attr.None [] [] [] []
-HasForm op.AsyncCreateGroup o = Has o 1 attr.None [] [] (ty.Group ∷ []) []
-HasForm op.AsyncExecute o = IsExecute o
-HasForm op.AsyncYield o = IsYield 0 o
-HasForm op.CfAssert o = (text : List ℕ) × AreBytes text × Has o 1 (attr.Text text) [] [] [] []
-HasForm op.FuncCall o = IsCall (λ us. ⊤) o
-HasForm op.FuncReturn o = IsYield 0 o
-HasForm op.MemrefAlloc o = (m : MemTy) × IsWrittenMemref m × Has o (length (operands_of o)) attr.None [] [] (ty.Memref m ∷ []) []
-HasForm op.MemrefDealloc o = (m : MemTy) × IsWrittenMemref m × Has o 1 attr.None [] (ty.Memref m ∷ []) [] []
-HasForm op.MemrefDim o = (m : MemTy) × IsWrittenMemref m × Has o 2 attr.None [] (ty.Memref m ∷ []) (ty.Index ∷ []) []
-HasForm op.MemrefLoad o = (m : MemTy) × (n : ℕ) × IsWrittenMemref m × Has o (n + 1) attr.None [] (ty.Memref m ∷ []) (cell_type m.elem ∷ []) []
-HasForm op.MemrefStore o = (m : MemTy) × (n : ℕ) × IsWrittenMemref m × Has o (n + 2) attr.None [] (ty.Memref m ∷ []) [] []
-HasForm op.ScfCondition o = IsYield 1 o
-HasForm op.ScfFor o = IsFor o
-HasForm op.ScfIf o = (ts : List Ty) × AreWritten ts × Has o 1 attr.None [] [] ts ([] ∷ [] ∷ [])
-HasForm op.ScfParallel o = IsParallel o
-HasForm op.ScfReduce o = Has o 0 attr.None [] [] [] []
-HasForm op.ScfWhile o = IsWhile o
-HasForm op.ScfYield o = IsYield 0 o
-HasForm _ o = ⊥
+HasForm k o = HasParts (row_of k).form o
 
 -- ---- the ends of regions
 

@@ -10,8 +10,9 @@ use crate::commas::{Print, push_list};
 use crate::text::push_text;
 use crate::tokens::{push_attr, push_symbol, push_value};
 use crate::types::push_type;
-use ir_forms::{Attr, Op, OpKind, Region, Ty, ValueNo};
+use ir_forms::{Attr, Op, Region, Ty, ValueNo};
 use lists::Items;
+use op_table::Form;
 use std::alloc::AllocError;
 
 /// All but the first of these values.
@@ -581,48 +582,25 @@ fn push_while(text: &mut Vec<u8>, op: &Op) -> Result<(), AllocError>
 pub(crate) fn push_form(text: &mut Vec<u8>, op: &Op) -> Result<(), AllocError>
     ensures { OnOk result (text.new.items ≡ text.old.items ++ bytes_of (form (kind_of op.now) op.now)) }
 {
-    match op.kind {
-        OpKind::AioTryCall | OpKind::FuncCall => push_call(text, op),
-        OpKind::ArithAddi
-        | OpKind::ArithAndi
-        | OpKind::ArithDivsi
-        | OpKind::ArithDivui
-        | OpKind::ArithMaxsi
-        | OpKind::ArithMaxui
-        | OpKind::ArithMinsi
-        | OpKind::ArithMinui
-        | OpKind::ArithMuli
-        | OpKind::ArithOri
-        | OpKind::ArithRemsi
-        | OpKind::ArithRemui
-        | OpKind::ArithSelect
-        | OpKind::ArithShli
-        | OpKind::ArithShrsi
-        | OpKind::ArithShrui
-        | OpKind::ArithSubi
-        | OpKind::ArithXori
-        | OpKind::AsyncCreateGroup => push_binary(text, op),
-        OpKind::ArithCmpi => push_compare(text, op),
-        OpKind::ArithConstant => push_constant(text, op),
-        OpKind::ArithExtsi
-        | OpKind::ArithExtui
-        | OpKind::ArithIndexCast
-        | OpKind::ArithIndexCastui
-        | OpKind::ArithTrunci => push_cast(text, op),
-        OpKind::AsyncAddToGroup | OpKind::AsyncAwait | OpKind::MemrefDealloc | OpKind::MemrefDim =>
-            push_unary(text, op),
-        OpKind::AsyncAwaitAll => push_uses(text, op),
-        OpKind::AsyncExecute => push_execute(text, op),
-        OpKind::AsyncYield | OpKind::FuncReturn | OpKind::ScfYield => push_yielded(text, op),
-        OpKind::CfAssert => push_assert(text, op),
-        OpKind::MemrefAlloc => push_alloc(text, op),
-        OpKind::MemrefLoad => push_load(text, op),
-        OpKind::MemrefStore => push_store(text, op),
-        OpKind::ScfCondition => push_condition(text, op),
-        OpKind::ScfFor => push_for(text, op),
-        OpKind::ScfIf => push_if(text, op),
-        OpKind::ScfParallel => push_parallel(text, op),
-        OpKind::ScfWhile => push_while(text, op),
-        _ => Ok(()),
+    match op.kind.form() {
+        Form::Binary | Form::Select | Form::CreateGroup => push_binary(text, op),
+        Form::Compare => push_compare(text, op),
+        Form::Constant => push_constant(text, op),
+        Form::Extend | Form::Truncate | Form::IndexCast => push_cast(text, op),
+        Form::Assert => push_assert(text, op),
+        Form::Call | Form::TryCall => push_call(text, op),
+        Form::Return | Form::Yield | Form::TaskYield => push_yielded(text, op),
+        Form::For => push_for(text, op),
+        Form::If => push_if(text, op),
+        Form::While => push_while(text, op),
+        Form::Condition => push_condition(text, op),
+        Form::Parallel => push_parallel(text, op),
+        Form::Alloc => push_alloc(text, op),
+        Form::Load => push_load(text, op),
+        Form::Store => push_store(text, op),
+        Form::Dealloc | Form::Dim | Form::Await | Form::AddToGroup => push_unary(text, op),
+        Form::AwaitAll => push_uses(text, op),
+        Form::Execute => push_execute(text, op),
+        Form::Reduce | Form::Other => Ok(()),
     }
 }

@@ -8,8 +8,6 @@ mod commas;
 mod forms;
 mod laws;
 mod printer;
-#[cfg(test)]
-mod tests;
 mod text;
 mod tokens;
 mod types;

@@ -1,25 +1,14 @@
 -- A text has one answer.
-use Rattle.std.proofs.Common.{◌≡◌, refl, sym, ◌∙◌, ap, subst, ◌⊎◌, inl, inr, ℕ, List, Result, Ok, Err, IsUtf8}
-use Rattle.std.proofs.lemmas.Str.{utf8_valid_len-IsValidUpTo}
+use Rattle.std.proofs.Common.{◌≡◌, sym, ℕ, List, Result, Ok, Err}
 use Rattle.op_table.specs.declared.rows.Level.{Level}
 use Rattle.ir_forms.specs.declared.ops.Module.{Module}
-use Rattle.mlir_lex.specs.declared.kinds.Token.{Token}
-use Rattle.mlir_lex.specs.declared.kinds.LexFault.{LexFault}
-use Rattle.mlir_lex.specs.declared.kinds.LexFault.TheVariants as lex
-use Rattle.mlir_lex.specs.Grammar.{Reads}
-use Rattle.mlir_lex.specs.Laws.{OneReading}
-use Rattle.mlir_lex.specs.Scan.{reading}
 use Rattle.module_grammar.specs.declared.state.Tok.{Tok}
 use Rattle.module_grammar.specs.declared.faults.TextLimits.{TextLimits}
 use Rattle.module_grammar.specs.declared.faults.GrammarFault.{GrammarFault}
 use Rattle.module_grammar.specs.declared.faults.GrammarFault.TheVariants as grammar
-use Rattle.module_grammar.specs.State.{at_start}
-use Rattle.module_grammar.specs.Texts.{whole}
-use Rattle.module_grammar.specs.Faults.{IsTextWithin, HasFault, parsed, AcceptsExactly, NamesFirstFault}
-use Rattle.mlir_text.specs.declared.fault.TextFault.{TextFault}
-use Rattle.mlir_text.specs.declared.fault.TextFault.TheVariants.{Lex, Syntax, UnknownOp, UnknownType, WideNumber, Limit, OutOfMemory}
-use Rattle.mlir_text.specs.Tokens.{AreToksOf, toks_of}
-use Rattle.mlir_text.specs.Texts.{IsTextOf, HasGrammarFault, HasLexFault, IsRefused, IsParsed, told, answer_of, OneModule, OneAnswer, ReadsTexts}
+use Rattle.module_grammar.specs.Faults.{parsed, AcceptsExactly, NamesFirstFault}
+use Rattle.mlir_text.specs.Tokens.{AreToksOf}
+use Rattle.mlir_text.specs.Texts.{HasGrammarFault, IsRefused, IsParsed, told, answer_of}
 
 -- ---- what a call tells
 
@@ -38,107 +27,3 @@ parsed_is accepts names limits level text toks (Err f) are e = by f e
     by (grammar.UnknownType at) e = has (grammar.UnknownType at) e
     by (grammar.WideNumber at) e = has (grammar.WideNumber at) e
     by (grammar.Limit which at) e = has (grammar.Limit which at) e
-
--- ---- one answer
-
-abbrev cut_ok : List Token → Result (List Token) LexFault
-cut_ok ts = Ok ts
-
-abbrev cut_err : LexFault → Result (List Token) LexFault
-cut_err f = Err f
-
-abbrev read_ok : Module → Result Module TextFault
-read_ok m = Ok m
-
-abbrev read_err : TextFault → Result Module TextFault
-read_err f = Err f
-
-module _ (one : OneReading) (accepts : AcceptsExactly) (limits : TextLimits) (level : Level) (text : List ℕ) where
-  reading_is : (toks : List Tok) → (are : AreToksOf text toks) → reading text ≡ Ok are.0
-  reading_is toks are = (one text (Ok are.0)).0 are.1.1
-
-  pub one_toks : (ts us : List Tok) → AreToksOf text ts → AreToksOf text us → ts ≡ us
-  one_toks ts us are be =
-      let both : cut_ok are.0 ≡ cut_ok be.0 = sym (reading_is ts are) ∙ reading_is us be in
-      let same : are.0 ≡ be.0 = cc in
-      are.2 ∙ ap (toks_of text) same ∙ sym be.2
-
-  -- an answer, and why it is given
-  data IsFrom (a : Result Module TextFault) : Type 0 where
-    by_grammar : (toks : List Tok) → AreToksOf text toks → answer_of (parsed limits level toks) ≡ a → IsFrom a
-    by_lex : (f : LexFault) → HasLexFault text f → a ≡ Err (Lex f) → IsFrom a
-    by_want : a ≡ Err OutOfMemory → IsFrom a
-
-  grammar_from : (f : GrammarFault) → HasGrammarFault limits level text f → IsFrom (Err (told f))
-  grammar_from f has = by_grammar has.0 has.1 (ap answer_of has.2)
-
-  from : (a : Result Module TextFault) → IsParsed limits level text a → IsFrom a
-  from (Ok m) (toks, are, is) = by_grammar toks are (ap answer_of ((accepts limits level toks m).1 is))
-  from (Err (Lex f)) has = by_lex f has refl
-  from (Err (Syntax at)) has = grammar_from (grammar.Syntax at) has
-  from (Err (UnknownOp at)) has = grammar_from (grammar.UnknownOp at) has
-  from (Err (UnknownType at)) has = grammar_from (grammar.UnknownType at) has
-  from (Err (WideNumber at)) has = grammar_from (grammar.WideNumber at) has
-  from (Err (Limit which at)) has = grammar_from (grammar.Limit which at) has
-  from (Err OutOfMemory) has = by_want refl
-
-  -- tokens and a fault of the tokens don't go together
-  no_lex : (toks : List Tok) → AreToksOf text toks → (f : LexFault) → HasLexFault text f → ⊥
-  no_lex toks are (lex.BadUtf8 at) has = has.0 are.1.0
-  no_lex toks are (lex.OpenString at) has = let e : cut_ok are.0 ≡ cut_err (lex.OpenString at) = sym (reading_is toks are) ∙ (one text (Err (lex.OpenString at))).0 has.1 in cc
-  no_lex toks are (lex.BadByte at) has = let e : cut_ok are.0 ≡ cut_err (lex.BadByte at) = sym (reading_is toks are) ∙ (one text (Err (lex.BadByte at))).0 has.1 in cc
-  no_lex toks are lex.OutOfMemory has = has
-
-  abbrev reads_fault : LexFault → Type 0
-  reads_fault f = reading text ≡ Err f
-
-  same_reading : (f g : LexFault) → reads_fault f → reads_fault g → f ≡ g
-  same_reading f g d e = let both : cut_err f ≡ cut_err g = sym d ∙ e in cc
-
-  one_lex : (f g : LexFault) → HasLexFault text f → HasLexFault text g → f ≡ g
-  one_lex (lex.BadUtf8 at) (lex.BadUtf8 be) has have = ap lex.BadUtf8 (sym (utf8_valid_len-IsValidUpTo text at has.1) ∙ utf8_valid_len-IsValidUpTo text be have.1)
-  one_lex (lex.BadUtf8 at) (lex.OpenString be) has have = absurd (has.0 have.0)
-  one_lex (lex.BadUtf8 at) (lex.BadByte be) has have = absurd (has.0 have.0)
-  one_lex (lex.OpenString at) (lex.BadUtf8 be) has have = absurd (have.0 has.0)
-  one_lex (lex.OpenString at) (lex.OpenString be) has have = same_reading _ _ ((one text (Err (lex.OpenString at))).0 has.1) ((one text (Err (lex.OpenString be))).0 have.1)
-  one_lex (lex.OpenString at) (lex.BadByte be) has have = same_reading _ _ ((one text (Err (lex.OpenString at))).0 has.1) ((one text (Err (lex.BadByte be))).0 have.1)
-  one_lex (lex.BadByte at) (lex.BadUtf8 be) has have = absurd (have.0 has.0)
-  one_lex (lex.BadByte at) (lex.OpenString be) has have = same_reading _ _ ((one text (Err (lex.BadByte at))).0 has.1) ((one text (Err (lex.OpenString be))).0 have.1)
-  one_lex (lex.BadByte at) (lex.BadByte be) has have = same_reading _ _ ((one text (Err (lex.BadByte at))).0 has.1) ((one text (Err (lex.BadByte be))).0 have.1)
-  one_lex (lex.BadUtf8 at) lex.OutOfMemory has have = absurd have
-  one_lex (lex.OpenString at) lex.OutOfMemory has have = absurd have
-  one_lex (lex.BadByte at) lex.OutOfMemory has have = absurd have
-  one_lex lex.OutOfMemory g has have = absurd has
-
-  abbrev Agree : Result Module TextFault → Result Module TextFault → Type 0
-  Agree a b = (a ≡ Err OutOfMemory) ⊎ ((b ≡ Err OutOfMemory) ⊎ (a ≡ b))
-
-  agree : (a b : Result Module TextFault) → IsFrom a → IsFrom b → Agree a b
-  agree a b (by_want e) g = inl e
-  agree a b f (by_want e) = inr (inl e)
-  agree a b (by_grammar ts are d) (by_grammar us be e) = inr (inr (sym d ∙ ap (λ toks. answer_of (parsed limits level toks)) (one_toks ts us are be) ∙ e))
-  agree a b (by_grammar ts are d) (by_lex f has e) = absurd (no_lex ts are f has)
-  agree a b (by_lex f has d) (by_grammar us be e) = absurd (no_lex us be f has)
-  agree a b (by_lex f has d) (by_lex g have e) = inr (inr (d ∙ ap (λ h. Err (Lex h)) (one_lex f g has have) ∙ sym e))
-
-  pub answers_agree : (a b : Result Module TextFault) → IsParsed limits level text a → IsParsed limits level text b → Agree a b
-  answers_agree a b is be = agree a b (from a is) (from b be)
-
-pub one_answer_lem : OneReading → AcceptsExactly → OneAnswer
-one_answer_lem one accepts limits level text a b is be = answers_agree one accepts limits level text a b is be
-
-pub reads_texts_lem : OneReading → AcceptsExactly → ReadsTexts
-reads_texts_lem one accepts limits level text m answer is be = by (answers_agree one accepts limits level text (Ok m) answer is be)
-  where
-    by : (read_ok m ≡ read_err OutOfMemory) ⊎ ((answer ≡ Err OutOfMemory) ⊎ (read_ok m ≡ answer)) → (answer ≡ Ok m) ⊎ (answer ≡ Err OutOfMemory)
-    by (inl e) = absurd (let no : read_ok m ≡ read_err OutOfMemory = e in cc)
-    by (inr (inl e)) = inr e
-    by (inr (inr e)) = inl (sym e)
-
-pub one_module_lem : OneReading → AcceptsExactly → OneModule
-one_module_lem one accepts limits level text m n is be = by (answers_agree one accepts limits level text (Ok m) (Ok n) is be)
-  where
-    by : (read_ok m ≡ read_err OutOfMemory) ⊎ ((read_ok n ≡ read_err OutOfMemory) ⊎ (read_ok m ≡ read_ok n)) → m ≡ n
-    by (inl e) = absurd (let no : read_ok m ≡ read_err OutOfMemory = e in cc)
-    by (inr (inl e)) = absurd (let no : read_ok n ≡ read_err OutOfMemory = e in cc)
-    by (inr (inr e)) = cc

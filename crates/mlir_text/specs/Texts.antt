@@ -1,6 +1,7 @@
 -- What a reader answers: the module that a text stands for, or why it is refused.
-use Rattle.std.specs.Prelude.{◌≡◌, ◌⊎◌, ℕ, List, Result, Ok, Err}
+use Rattle.std.specs.Prelude.{◌≡◌, ◌⊎◌, ℕ, Bool, true, false, List, Result, Ok, Err}
 use Rattle.op_table.specs.declared.rows.Level.{Level}
+use Rattle.op_table.specs.declared.rows.Level.TheVariants.{Low}
 use Rattle.ir_forms.specs.declared.ops.Module.{Module}
 use Rattle.mlir_lex.specs.declared.kinds.LexFault.{LexFault}
 use Rattle.mlir_lex.specs.declared.kinds.LexFault.TheVariants as lex
@@ -15,6 +16,11 @@ use Rattle.module_grammar.specs.Faults.{IsTextWithin, HasFault, parsed}
 use Rattle.mlir_text.specs.declared.fault.TextFault.{TextFault}
 use Rattle.mlir_text.specs.declared.fault.TextFault.TheVariants.{Lex, Syntax, UnknownOp, UnknownType, WideNumber, Limit, OutOfMemory}
 use Rattle.mlir_text.specs.Tokens.{AreToksOf}
+
+-- the levels of texts without blocks
+abbrev pub is_structured : Level → Bool
+is_structured Low = false
+is_structured _ = true
 
 -- the bytes are cut into tokens that are a text of the level, within the limits, and stand for the module
 abbrev pub IsTextOf : TextLimits → Level → List ℕ → Module → Type 0

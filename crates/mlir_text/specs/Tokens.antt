@@ -1,5 +1,5 @@
 -- The tokens of a text with their bytes, as the grammar reads them.
-use Rattle.std.specs.Prelude.{◌≡◌, ℕ, ◌-◌, ◌==◌, Bool, true, false, List, [], ◌∷◌, Option, Some, None, take, drop}
+use Rattle.std.specs.Prelude.{◌≡◌, ℕ, ◌-◌, ◌==◌, Bool, false, List, [], ◌∷◌, Option, Some, None, take, drop}
 use Rattle.mlir_lex.specs.declared.kinds.Token.{Token}
 use Rattle.mlir_lex.specs.Answer.{AreTokens}
 use Rattle.module_grammar.specs.declared.state.Tok.{Tok}

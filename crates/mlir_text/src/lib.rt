@@ -2,12 +2,10 @@
 #![tactic(auto)]
 
 mod fault;
-mod laws;
 mod reader;
 mod tokens;
 
 pub use fault::TextFault;
-pub use laws::{one_answer, one_module, reads_texts};
 pub use module_grammar::{Limited, TextLimits};
 pub use reader::{PROGRAM_LIMITS, parse};
 

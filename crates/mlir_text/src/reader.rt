@@ -1,7 +1,7 @@
 //! Reads a text into its module.
-ghost use Rattle.std.specs.Prelude.{◌≡◌, ◌<◌, ◌^◌, length};
+ghost use Rattle.std.specs.Prelude.{◌≡◌, ◌<◌, ◌≤◌, ◌^◌, length, IsTrue};
 ghost use Rattle.mlir_text.specs.Texts as spec;
-ghost use Rattle.mlir_text.specs.Texts.{IsParsed};
+ghost use Rattle.mlir_text.specs.Texts.{IsParsed, is_structured};
 
 use crate::TextFault;
 use crate::tokens::toks_of;
@@ -29,7 +29,9 @@ pub fn parse(
     level: Level,
     limits: &TextLimits,
 ) -> Result<Module, TextFault>
-    requires { length bytes.now < 2 ^ 32 }
+    requires length { length bytes.now < 2 ^ 32 }
+    requires level { IsTrue (is_structured level) }
+    requires depth { limits.now.depth ≤ 512 }
     ensures { IsParsed limits.now level bytes.now result }
 {
     module_grammar::accepts_exactly();

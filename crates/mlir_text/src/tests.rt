@@ -21,7 +21,7 @@ fn read_within(
     text: &[u8],
     limits: &TextLimits,
 ) -> Result<Module, TextFault> {
-    assert!(rt; text.len() <= MEBIBYTE);
+    assert!(rt; text.len() <= MEBIBYTE && limits.depth <= 512);
     parse(alloc, text, Level::Source, limits)
 }
 

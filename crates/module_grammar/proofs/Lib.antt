@@ -1,8 +1,6 @@
 pub mod Runs
 pub mod Ends
-pub mod FirstFault
 pub mod Source
-pub mod Texts
 pub mod Grows
 pub mod Walks
 pub mod Values
@@ -13,8 +11,5 @@ pub mod NamedForms
 pub mod Stacks
 pub mod FirstWords
 pub mod Passes
-pub mod Unknown
 pub mod Distinct
-pub mod Fitting
-pub mod TokenClasses
-pub mod Exact
+pub mod NamedKinds

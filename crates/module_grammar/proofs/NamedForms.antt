@@ -1,10 +1,8 @@
 -- The line of a form is found by its name.
-use Rattle.std.proofs.Common.{◌≡◌, true, false, List, [], ◌∷◌, ◌++◌, None, refl, append_assoc}
+use Rattle.std.proofs.Common.{◌≡◌, true, false, List, [], ◌∷◌, None, refl}
 use Rattle.op_table.specs.declared.kind.OpKind.{OpKind}
 use Rattle.op_table.specs.declared.rows.Level.{Level}
-use Rattle.module_grammar.specs.declared.symbols.Act.TheVariants as act
 use Rattle.module_grammar.specs.declared.symbols.Symbol.{Symbol}
-use Rattle.module_grammar.specs.declared.symbols.Symbol.TheVariants as symbol
 use Rattle.module_grammar.specs.declared.state.Tok.{Tok}
 use Rattle.module_grammar.specs.declared.state.State.{State}
 use Rattle.module_grammar.specs.Engine.{first_line}
@@ -13,12 +11,12 @@ use Rattle.module_grammar.specs.Rules.{grammar, is_of, allows, is_name, forms_th
 use Rattle.module_grammar.proofs.Runs.{by_test}
 
 named-lines : (level : Level) (before ss : List Symbol) (ks : List OpKind) (s : State) (t : Tok) → is_name t.kind ≡ true
-    → first_line (grammar level) (forms_then before ss ks) s t ≡ form_or_none (before ++ symbol.Do act.Kind ∷ []) ss (kind_among ks t.text)
+    → first_line (grammar level) (forms_then before ss ks) s t ≡ form_or_none before ss (kind_among ks t.text)
 unfolding is_of allows
 named-lines level before ss [] s t n = refl
 named-lines level before ss (k ∷ ks) s t n =
     by_test (is_name_of k t.text)
-    (λ y. rw (n, y) (rw append_assoc refl))
+    (λ y. rw (n, y) refl)
     (λ z. rw (n, z) (named-lines level before ss ks s t n))
 
 unnamed-lines : (level : Level) (before ss : List Symbol) (ks : List OpKind) (s : State) (t : Tok) → is_name t.kind ≡ false
@@ -28,7 +26,7 @@ unnamed-lines level before ss [] s t n = refl
 unnamed-lines level before ss (k ∷ ks) s t n = rw n (unnamed-lines level before ss ks s t n)
 
 pub form_lines : (level : Level) (before ss : List Symbol) (s : State) (t : Tok)
-    → first_line (grammar level) (forms_then before ss (kinds_at level)) s t ≡ form_chosen level (before ++ symbol.Do act.Kind ∷ []) ss t
+    → first_line (grammar level) (forms_then before ss (kinds_at level)) s t ≡ form_chosen level before ss t
 form_lines level before ss s t =
     by_test (is_name t.kind)
     (λ y. rw y (named-lines level before ss (kinds_at level) s t y))

@@ -50,39 +50,43 @@ reached_more level (u ∷ front) k s t p q e h =
     rw (f, reached) (reached_more level front (settled r.left r.state).left (settled r.left r.state).state t p q a h))
     (λ f. let a : None ≡ Some p = sym (rw (f, reached) refl) ∙ e in absurd cc)
 
--- the fault of a token, at the place that the tokens before it reach
-pub refused_there : {E : Type 0} (limits : TextLimits) (level : Level) (o : Option (Place State)) (k left : List Symbol) (s : State) (t : Tok)
-    (r : Result GrammarFault E) → o ≡ Some (record { left = k; state = s }) → left ≡ k → IfOk r (λ f. f ≡ refusal limits level left s t)
-    → IfOk r (λ f. option_map (λ (p : Place State). refusal limits level p.left p.state t) o ≡ Some f)
-refused_there limits level o k left s t (Ok f) e h g =
-    ap (option_map (λ (p : Place State). refusal limits level p.left p.state t)) e
-    ∙ ap (λ (x : List Symbol). Some (refusal limits level x s t)) (sym h) ∙ ap (λ (x : GrammarFault). Some x) (sym g)
-refused_there limits level o k left s t (Err x) e h g = tt
+-- a fault that is told at each place is told at the place that is reached
+pub told_fault : (tells : Place State → Option GrammarFault) (fault : Place State → GrammarFault) (o : Option (Place State)) (f : GrammarFault)
+    → ((p : Place State) → tells p ≡ Some (fault p)) → option_map tells o ≡ Some (Some f) → option_map fault o ≡ Some f
+told_fault tells fault None f each e = absurd cc
+told_fault tells fault (Some p) f each e =
+    let there : tells p ≡ Some f = cc in
+    let same : Some (fault p) ≡ Some f = sym (each p) ∙ there in same
+
+pub told_always : {A : Type 0} (tells : Place State → Option GrammarFault) (fault : Place State → GrammarFault) (o : Option (Place State))
+    → ((p : Place State) → tells p ≡ Some (fault p)) → option_map tells o ≡ Some None → A
+told_always tells fault None each e = absurd cc
+told_always tells fault (Some p) each e =
+    let there : tells p ≡ None = cc in
+    let same : Some (fault p) ≡ None = sym (each p) ∙ there in absurd cc
 
 -- ---- one token
 
-stopped : (limits : TextLimits) (level : Level) (before : Place State) (t : Tok) (f : GrammarFault)
-    → step (grammar level) before.left before.state t ≡ None → refusal limits level before.left before.state t ≡ f
-    → IsStopped limits level before t f
-stopped limits level before t f h e = record {
-  stops = λ ts. walk-refused limits level before.left before.state t ts h ∙ ap (λ (x : GrammarFault). Err x) e;
-}
+stopped : (limits : TextLimits) (level : Level) (before : Place State) (t : Tok) (ts : List Tok) (f : GrammarFault)
+    → step (grammar level) before.left before.state t ≡ None → refusal limits level before.left before.state t ts ≡ f
+    → IsStopped limits level before t ts f
+stopped limits level before t ts f h e = walk-refused limits level before.left before.state t ts h ∙ ap (λ (x : GrammarFault). Err x) e
 
-refused_of : (limits : TextLimits) (level : Level) (o : Option (Place State)) (before : Place State) (t : Tok) (f : GrammarFault)
-    → o ≡ Some before → option_map (λ (p : Place State). refusal limits level p.left p.state t) o ≡ Some f
-    → refusal limits level before.left before.state t ≡ f
-refused_of limits level None before t f e g = absurd cc
-refused_of limits level (Some p) before t f e g =
+refused_of : (limits : TextLimits) (level : Level) (o : Option (Place State)) (before : Place State) (t : Tok) (ts : List Tok) (f : GrammarFault)
+    → o ≡ Some before → option_map (λ (p : Place State). refusal limits level p.left p.state t ts) o ≡ Some f
+    → refusal limits level before.left before.state t ts ≡ f
+refused_of limits level None before t ts f e g = absurd cc
+refused_of limits level (Some p) before t ts f e g =
     let same : p ≡ before = cc in
-    let a : refusal limits level p.left p.state t ≡ f = cc in
-    subst (λ (x : Place State). refusal limits level x.left x.state t ≡ f) same a
+    let a : refusal limits level p.left p.state t ts ≡ f = cc in
+    subst (λ (x : Place State). refusal limits level x.left x.state t ts ≡ f) same a
 
 -- a token that doesn't fit behind the tokens has this fault
-is_refused : (limits : TextLimits) (level : Level) (o : Option (Place State)) (before : Place State) (t : Tok) (f : GrammarFault)
+is_refused : (limits : TextLimits) (level : Level) (o : Option (Place State)) (before : Place State) (t : Tok) (ts : List Tok) (f : GrammarFault)
     → o ≡ Some before → step (grammar level) before.left before.state t ≡ None
-    → option_map (λ (p : Place State). refusal limits level p.left p.state t) o ≡ Some f
-    → IsStopped limits level before t f
-is_refused limits level o before t f e h g = stopped limits level before t f h (refused_of limits level o before t f e g)
+    → option_map (λ (p : Place State). refusal limits level p.left p.state t ts) o ≡ Some f
+    → IsStopped limits level before t ts f
+is_refused limits level o before t ts f e h g = stopped limits level before t ts f h (refused_of limits level o before t ts f e g)
 
 passed_of : (limits : TextLimits) (o : Option (Place State)) (before : Place State) (now : State) (t : Tok) (f : Option GrammarFault)
     → o ≡ Some before → option_map (λ (p : Place State). limit_passed limits p.state now t) o ≡ Some f
@@ -94,15 +98,15 @@ passed_of limits (Some p) before now t f e g =
     subst (λ (x : Place State). limit_passed limits x.state now t ≡ f) same a
 
 -- a token that fits behind the tokens passes a limit
-is_stopped : (limits : TextLimits) (level : Level) (o : Option (Place State)) (before q after : Place State) (t : Tok) (f : GrammarFault)
+is_stopped : (limits : TextLimits) (level : Level) (o : Option (Place State)) (before q after : Place State) (t : Tok) (ts : List Tok) (f : GrammarFault)
     → o ≡ Some before → step (grammar level) before.left before.state t ≡ Some q → after ≡ settled q.left q.state
     → option_map (λ (p : Place State). limit_passed limits p.state after.state t) o ≡ Some (Some f)
-    → IsStopped limits level before t f
-is_stopped limits level o before q after t f e h same g =
+    → IsStopped limits level before t ts f
+is_stopped limits level o before q after t ts f e h same g =
     let a : limit_passed limits before.state after.state t ≡ Some f = passed_of limits o before after.state t (Some f) e g in
     let b : limit_passed limits before.state (settled q.left q.state).state t ≡ Some f =
     subst (λ (x : Place State). limit_passed limits before.state x.state t ≡ Some f) same a in
-    record { stops = λ ts. walk-passed limits level before.left before.state t ts q f h b }
+    walk-passed limits level before.left before.state t ts q f h b
 
 led : (limits : TextLimits) (level : Level) (before q : Place State) (t : Tok) → step (grammar level) before.left before.state t ≡ Some q
     → limit_passed limits before.state (settled q.left q.state).state t ≡ None → IsLed limits level before (settled q.left q.state) t
@@ -121,12 +125,12 @@ is_led limits level o before q after t e h same g =
     subst (λ (x : Place State). IsLed limits level before x t) (sym same)
     (led limits level before q t h (subst (λ (x : Place State). limit_passed limits before.state x.state t ≡ None) same a))
 
-taken_with : (limits : TextLimits) (level : Level) (o : Option (Place State)) (before q after : Place State) (t : Tok) (f : Option GrammarFault)
-    → o ≡ Some before → step (grammar level) before.left before.state t ≡ Some q → after ≡ settled q.left q.state
+taken_with : (limits : TextLimits) (level : Level) (o : Option (Place State)) (before q after : Place State) (t : Tok) (ts : List Tok)
+    (f : Option GrammarFault) → o ≡ Some before → step (grammar level) before.left before.state t ≡ Some q → after ≡ settled q.left q.state
     → option_map (λ (p : Place State). limit_passed limits p.state after.state t) o ≡ Some f
-    → IsTaken limits level before after t f
-taken_with limits level o before q after t (Some f) e h same g = is_stopped limits level o before q after t f e h same g
-taken_with limits level o before q after t None e h same g = is_led limits level o before q after t e h same g
+    → IsTaken limits level before after t ts f
+taken_with limits level o before q after t ts (Some f) e h same g = is_stopped limits level o before q after t ts f e h same g
+taken_with limits level o before q after t ts None e h same g = is_led limits level o before q after t e h same g
 
 step_fits : (level : Level) (before q : Place State) (t u : Tok) (b : Bool) → b ≡ true → u ≡ t
     → MatchBool b (step (grammar level) before.left before.state u ≡ Some q) (step (grammar level) before.left before.state u ≡ None)
@@ -141,23 +145,23 @@ step_fails level before q t u false e same h = subst (λ (x : Tok). step (gramma
 step_fails level before q t u true e same h = absurd cc
 
 -- a token that fits behind the tokens leads on, or passes a limit
-pub is_taken : {E : Type 0} (limits : TextLimits) (level : Level) (o : Option (Place State)) (before q after : Place State) (t u : Tok) (b : Bool)
-    (r : Result (Option GrammarFault) E) → o ≡ Some before → b ≡ true → u ≡ t
+pub is_taken : {E : Type 0} (limits : TextLimits) (level : Level) (o : Option (Place State)) (before q after : Place State) (t u : Tok) (ts : List Tok)
+    (b : Bool) (r : Result (Option GrammarFault) E) → o ≡ Some before → b ≡ true → u ≡ t
     → MatchBool b (step (grammar level) before.left before.state u ≡ Some q) (step (grammar level) before.left before.state u ≡ None)
     → after ≡ settled q.left q.state
     → IfOk r (λ f. option_map (λ (p : Place State). limit_passed limits p.state after.state t) o ≡ Some f)
-    → IfOk r (λ f. IsTaken limits level before after t f)
-is_taken limits level o before q after t u b (Ok f) e y same h led g =
-    taken_with limits level o before q after t f e (step_fits level before q t u b y same h) led g
-is_taken limits level o before q after t u b (Err x) e y same h led g = tt
+    → IfOk r (λ f. IsTaken limits level before after t ts f)
+is_taken limits level o before q after t u ts b (Ok f) e y same h led g =
+    taken_with limits level o before q after t ts f e (step_fits level before q t u b y same h) led g
+is_taken limits level o before q after t u ts b (Err x) e y same h led g = tt
 
 -- a token that doesn't fit behind the tokens has its fault
-pub is_faulty : (limits : TextLimits) (level : Level) (o : Option (Place State)) (before q : Place State) (t u : Tok) (b : Bool) (f : GrammarFault)
-    → o ≡ Some before → b ≡ false → u ≡ t
+pub is_faulty : (limits : TextLimits) (level : Level) (o : Option (Place State)) (before q : Place State) (t u : Tok) (ts : List Tok) (b : Bool)
+    (f : GrammarFault) → o ≡ Some before → b ≡ false → u ≡ t
     → MatchBool b (step (grammar level) before.left before.state u ≡ Some q) (step (grammar level) before.left before.state u ≡ None)
-    → option_map (λ (p : Place State). refusal limits level p.left p.state t) o ≡ Some f → IsStopped limits level before t f
-is_faulty limits level o before q t u b f e n same h g =
-    is_refused limits level o before t f e (step_fails level before q t u b n same h) g
+    → option_map (λ (p : Place State). refusal limits level p.left p.state t ts) o ≡ Some f → IsStopped limits level before t ts f
+is_faulty limits level o before q t u ts b f e n same h g =
+    is_refused limits level o before t ts f e (step_fails level before q t u b n same h) g
 
 -- ---- the tokens of a loop
 
@@ -166,11 +170,12 @@ next_of ts i d h = rw add-one (drop-cons ts i d h)
 
 -- a fault at a token of the loop is the answer
 pub walk_stops : (limits : TextLimits) (level : Level) (ts : List Tok) (i : ℕ) (t : Tok) (before after : Place State) (o : Option GrammarFault) (f : GrammarFault)
-    (r : Result State GrammarFault) → i < length ts → t ≡ get_or ts i t → o ≡ Some f → IsTaken limits level before after t o
+    (r : Result State GrammarFault) → i < length ts → t ≡ get_or ts i t → o ≡ Some f → IsTaken limits level before after t (drop (i + 1) ts) o
     → walk limits level before.left before.state (drop i ts) ≡ r → r ≡ Err f
 walk_stops limits level ts i t before after None f r h same is l e = absurd cc
 walk_stops limits level ts i t before after (Some g) f r h same is l e =
     let g_is : g ≡ f = cc in
-    let s : IsStopped limits level before (get_or ts i t) g = subst (λ (x : Tok). IsStopped limits level before x g) same l in
-    sym e ∙ ap (λ (x : List Tok). walk limits level before.left before.state x) (next_of ts i t h) ∙ s.stops (drop (i + 1) ts)
+    let s : IsStopped limits level before (get_or ts i t) (drop (i + 1) ts) g =
+    subst (λ (x : Tok). IsStopped limits level before x (drop (i + 1) ts) g) same l in
+    sym e ∙ ap (λ (x : List Tok). walk limits level before.left before.state x) (next_of ts i t h) ∙ s
     ∙ ap (λ (x : GrammarFault). Err x) g_is

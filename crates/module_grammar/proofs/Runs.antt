@@ -5,7 +5,7 @@ use Rattle.module_grammar.specs.declared.symbols.Rule.{Rule}
 use Rattle.module_grammar.specs.declared.symbols.Act.{Act}
 use Rattle.module_grammar.specs.declared.symbols.Symbol.{Symbol}
 use Rattle.module_grammar.specs.declared.symbols.Symbol.TheVariants as symbol
-use Rattle.module_grammar.specs.Engine.{Line, Table, Place, Leads, line_at, BeginsNone, step, close, closed, run}
+use Rattle.module_grammar.specs.Engine.{Line, Table, Place, Leads, line_at, BeginsNone, step, close, closed, run, Begins}
 
 -- ---- one token of a run
 
@@ -107,3 +107,18 @@ run-leads g (t ∷ ts) k s s' e =
     by_option (step g k s t)
     (λ p f. step-leads g k s t ts p s' f (run-leads g ts p.left p.state s' (sym (run-some g k s t ts p f) ∙ e)))
     (λ f. let h : Err (t ∷ ts) ≡ Ok s' = sym (run-none g k s t ts f) ∙ e in absurd cc)
+
+-- ---- what begins a text
+
+-- behind a token that fits, a text goes on from where it leads
+pub leads-after : {T S : Type 0} (g : Table T S) (k : List Symbol) (s : S) (t : T) (ts : List T) (p : Place S) (s' : S)
+    → step g k s t ≡ Some p → Leads g k s (t ∷ ts) s' → Leads g p.left p.state ts s'
+leads-after g k s t ts p s' e d = run-leads g ts p.left p.state s' (sym (run-some g k s t ts p e) ∙ leads-run g k s (t ∷ ts) s' d)
+
+pub begins-after : {T S : Type 0} (g : Table T S) (k : List Symbol) (s : S) (t : T) (front : List T) (p : Place S)
+    → step g k s t ≡ Some p → Begins g k s (t ∷ front) → Begins g p.left p.state front
+begins-after g k s t front p e b = (b.0, b.1, leads-after g k s t (front ++ b.0) p b.1 e b.2)
+
+pub begins-before : {T S : Type 0} (g : Table T S) (k : List Symbol) (s : S) (t : T) (front : List T) (p : Place S)
+    → step g k s t ≡ Some p → Begins g p.left p.state front → Begins g k s (t ∷ front)
+begins-before g k s t front p e b = (b.0, b.1, step-leads g k s t (front ++ b.0) p b.1 e b.2)

@@ -13,7 +13,7 @@ use Rattle.std.proofs.lemmas.Slice.Eq.{bytes_eq-Decides}
 use Rattle.module_grammar.specs.declared.symbols.Act.TheVariants as act
 use Rattle.module_grammar.specs.declared.symbols.Symbol.{Symbol}
 use Rattle.module_grammar.specs.declared.symbols.Symbol.TheVariants as symbol
-use Rattle.module_grammar.specs.Engine.{Line, Leads, line_at, first_line, all_good, ends_within, Done, CanEnd}
+use Rattle.module_grammar.specs.Engine.{Line, Leads, line_at, first_line, good_then, all_good, ends_within, Done, CanEnd}
 use Rattle.module_grammar.specs.declared.state.Tok.{Tok}
 use Rattle.module_grammar.specs.declared.state.Name.{Name}
 use Rattle.module_grammar.specs.declared.state.State.{State}
@@ -23,6 +23,7 @@ use Rattle.module_grammar.specs.Tokens.{number_of, type_of, memref_type}
 use Rattle.module_grammar.specs.State.{is_named, param_names, is_wide, entry_after, does}
 use Rattle.module_grammar.specs.Rules.{grammar, is_of, allows, lines, may_end}
 use Rattle.module_grammar.specs.Endings.{endings, usable, is_dict, longer, follow, same_class, same_key, is_among, sample, plain_sample, start}
+use Rattle.module_grammar.specs.Texts.{whole}
 use Rattle.module_grammar.proofs.Runs.{by_test}
 use Rattle.module_grammar.proofs.Ends.{and-left, and-right}
 
@@ -235,3 +236,10 @@ can-end level = record {
   soon = λ r. ends-soon level r;
   special = λ r h k c d s. special-done level r h k c d s;
 }
+
+pub whole-good : (level : Level) → good_then (grammar level) (endings level) whole class.End ≡ true
+unfolding is_of allows number_of type_of memref_type
+whole-good Source = refl
+whole-good Checked = refl
+whole-good Split = refl
+whole-good Low = refl

@@ -7,6 +7,7 @@ use Rattle.module_grammar.specs.declared.symbols.Symbol.TheVariants as symbol
 use Rattle.module_grammar.specs.declared.faults.TextLimits.{TextLimits}
 use Rattle.module_grammar.specs.declared.faults.GrammarFault.{GrammarFault}
 use Rattle.module_grammar.specs.declared.faults.GrammarFault.TheVariants as fault
+use Rattle.module_grammar.specs.declared.faults.Limited.TheVariants as limited
 use Rattle.module_grammar.specs.declared.symbols.Class.TheVariants as class
 use Rattle.module_grammar.specs.Engine.{Place, Leads, Begins, good_then, step, close, closed, run}
 use Rattle.module_grammar.specs.declared.state.Tok.{Tok}
@@ -15,12 +16,10 @@ use Rattle.module_grammar.specs.State.{at_start, module_of, does}
 use Rattle.module_grammar.specs.Rules.{grammar}
 use Rattle.module_grammar.specs.Endings.{endings}
 use Rattle.module_grammar.specs.Texts.{whole}
-use Rattle.module_grammar.specs.Faults.{IsWithin, IsTextWithin, limit_passed, refusal, settled, ended, walk, module_or, reached, IsCause, HasFault, AcceptsExactly, NamesFirstFault}
+use Rattle.module_grammar.specs.Faults.{IsWithin, IsTextWithin, limit_passed, fault_there, held_past, refusal, settled, ended, walk, module_or, reached, IsCause, HasFault, AcceptsExactly, NamesFirstFault}
 use Rattle.module_grammar.proofs.Ends.{step-keeps, completes}
-use Rattle.module_grammar.proofs.FirstFault.{begins-after, begins-before}
-use Rattle.module_grammar.proofs.Source.{can-end}
-use Rattle.module_grammar.proofs.Texts.{whole-good}
-use Rattle.module_grammar.proofs.Runs.{by_test, by_option, leads-run, run-leads, step-leads, run-act, run-some, run-none}
+use Rattle.module_grammar.proofs.Source.{can-end, whole-good}
+use Rattle.module_grammar.proofs.Runs.{by_test, by_option, leads-run, run-leads, step-leads, run-act, run-some, run-none, begins-after, begins-before}
 use Rattle.module_grammar.proofs.Grows.{Grew, leads-grew}
 
 -- ---- the actions that stand first
@@ -78,7 +77,7 @@ abbrev pub next_state : Level → Place State → State
 next_state level p = (settled p.left p.state).state
 
 pub walk-refused : (limits : TextLimits) (level : Level) (k : List Symbol) (s : State) (t : Tok) (ts : List Tok)
-    → step (grammar level) k s t ≡ None → walk limits level k s (t ∷ ts) ≡ Err (refusal limits level k s t)
+    → step (grammar level) k s t ≡ None → walk limits level k s (t ∷ ts) ≡ Err (refusal limits level k s t ts)
 walk-refused limits level k s t ts e = rw (e, walk) refl
 
 pub walk-passed : (limits : TextLimits) (level : Level) (k : List Symbol) (s : State) (t : Tok) (ts : List Tok) (p : Place State) (f : GrammarFault)
@@ -123,7 +122,7 @@ walked limits level (t ∷ ts) k s s' e =
     (λ x g. let a : Err x ≡ Ok s' = sym (walk-passed limits level k s t ts p x f g) ∙ e in absurd cc)
     (λ g. let r = walked limits level ts (settled p.left p.state).left (next_state level p) s' (sym (walk-on limits level k s t ts p f g) ∙ e) in
     record { leads = step-leads (grammar level) k s t ts p s' f (settle-leads level p.left p.state ts s' r.leads); within = r.within }))
-    (λ f. let a : Err (refusal limits level k s t) ≡ Ok s' = sym (walk-refused limits level k s t ts f) ∙ e in absurd cc)
+    (λ f. let a : Err (refusal limits level k s t ts) ≡ Ok s' = sym (walk-refused limits level k s t ts f) ∙ e in absurd cc)
 
 -- a text within the limits is walked
 end-walks : (limits : TextLimits) (level : Level) (k : List Symbol) (s s' : State) (o : Option State)
@@ -190,8 +189,10 @@ cause-before : (limits : TextLimits) (level : Level) (k : List Symbol) (s : Stat
     (place : Place State) (rest : List Tok) (f : GrammarFault) → step (grammar level) k s t ≡ Some p
     → IsCause limits level (settled p.left p.state).left (next_state level p) front place rest f
     → IsCause limits level k s (t ∷ front) place rest f
-cause-before limits level k s t front p place _ _ e (IsCause.refused u rest h) =
-    IsCause.refused u rest (λ b. h (begins-from level k s t (front ++ u ∷ []) p e b))
+cause-before limits level k s t front p place _ _ e (IsCause.refused u rest h n) =
+    IsCause.refused u rest (λ b. h (begins-from level k s t (front ++ u ∷ []) p e b)) n
+cause-before limits level k s t front p place _ _ e (IsCause.held u rest at h n) =
+    IsCause.held u rest at (λ b. h (begins-from level k s t (front ++ u ∷ []) p e b)) n
 cause-before limits level k s t front p place _ _ e (IsCause.passed u rest q f b g i) =
     IsCause.passed u rest q f (begins-on level k s t (front ++ u ∷ []) p e b) g i
 cause-before limits level k s t front p place _ _ e (IsCause.cut h) = IsCause.cut h
@@ -241,11 +242,17 @@ end-fault limits level k s f None h b e g =
     subst (λ (y : GrammarFault). HasFault limits level k s [] y) same (fault-here limits level k s [] (fault.Syntax s.last.at) h b (IsCause.cut e))
 
 refused-here : (limits : TextLimits) (level : Level) (k : List Symbol) (s : State) (t : Tok) (ts : List Tok) → IsWithin limits s
-    → Begins (grammar level) k s [] → step (grammar level) k s t ≡ None → HasFault limits level k s (t ∷ ts) (refusal limits level k s t)
+    → Begins (grammar level) k s [] → step (grammar level) k s t ≡ None → HasFault limits level k s (t ∷ ts) (refusal limits level k s t ts)
 refused-here limits level k s t ts h b e =
-    fault-here limits level k s (t ∷ ts) (refusal limits level k s t) h b
-    (IsCause.refused t ts (λ c. let a : Err (t ∷ c.0) ≡ Ok c.1 =
-    sym (run-none (grammar level) k s t c.0 e) ∙ leads-run (grammar level) k s (t ∷ c.0) c.1 c.2 in absurd cc))
+    by_option (held_past limits k s)
+    (λ at f. subst (λ (x : GrammarFault). HasFault limits level k s (t ∷ ts) x) (sym (rw f refl))
+    (fault-here limits level k s (t ∷ ts) (fault.Limit limited.Values at) h b (IsCause.held t ts at refused f)))
+    (λ f. subst (λ (x : GrammarFault). HasFault limits level k s (t ∷ ts) x) (sym (rw f refl))
+    (fault-here limits level k s (t ∷ ts) (fault_there limits level k s t ts) h b (IsCause.refused t ts refused f)))
+  where
+    refused : Begins (grammar level) k s (t ∷ []) → ⊥
+    refused c = let a : Err (t ∷ c.0) ≡ Ok c.1 =
+        sym (run-none (grammar level) k s t c.0 e) ∙ leads-run (grammar level) k s (t ∷ c.0) c.1 c.2 in absurd cc
 
 pub has-fault : (limits : TextLimits) (level : Level) (ts : List Tok) (k : List Symbol) (s : State) (f : GrammarFault)
     → good_then (grammar level) (endings level) k class.End ≡ true → IsWithin limits s
@@ -266,8 +273,8 @@ has-fault limits level (t ∷ ts) k s f g h e =
     (λ j. fault-on limits level k s t ts p f i
     (has-fault limits level ts (settled p.left p.state).left (next_state level p) f gp (within-now limits s (next_state level p) t j)
     (sym (walk-on limits level k s t ts p i j) ∙ e))))
-    (λ i. let a : Err (refusal limits level k s t) ≡ Err f = sym (walk-refused limits level k s t ts i) ∙ e in
-    let same : refusal limits level k s t ≡ f = cc in
+    (λ i. let a : Err (refusal limits level k s t ts) ≡ Err f = sym (walk-refused limits level k s t ts i) ∙ e in
+    let same : refusal limits level k s t ts ≡ f = cc in
     subst (λ (y : GrammarFault). HasFault limits level k s (t ∷ ts) y) same
     (refused-here limits level k s t ts h (completes (grammar level) (endings level) (can-end level) class.End k s g) i))
 

@@ -1,5 +1,5 @@
 -- The first fault of the tokens of a text, within limits.
-use Rattle.std.specs.Prelude.{◌≡◌, ◌≤◌, ℕ, zero, suc, ◌+◌, ◌-◌, Bool, true, false, not, ◌&&◌, ◌||◌, ◌↔◌, if◌then◌else◌, nat_le, nat_lt, List, [], ◌∷◌, ◌++◌, Option, Some, None, is_some, Result, Ok, Err}
+use Rattle.std.specs.Prelude.{◌≡◌, ◌≤◌, ℕ, zero, suc, ◌+◌, ◌-◌, Bool, true, false, not, ◌&&◌, ◌||◌, ◌↔◌, if◌then◌else◌, nat_le, nat_lt, List, [], ◌∷◌, ◌++◌, length, Option, Some, None, is_some, unwrap_or, Result, Ok, Err}
 use Rattle.op_table.specs.declared.kind.OpKind.{OpKind}
 use Rattle.op_table.specs.declared.rows.Level.{Level}
 use Rattle.op_table.specs.Rows.{all_kinds, stands_at}
@@ -22,7 +22,7 @@ use Rattle.module_grammar.specs.declared.state.Name.{Name}
 use Rattle.module_grammar.specs.declared.state.State.{State}
 use Rattle.module_grammar.specs.declared.state.Entry.{Entry}
 use Rattle.module_grammar.specs.declared.state.Entry.TheVariants as entry
-use Rattle.module_grammar.specs.Tokens.{kind_among, is_number_kind, type_of}
+use Rattle.module_grammar.specs.Tokens.{kind_among, is_number_kind, number_of, type_of}
 use Rattle.module_grammar.specs.State.{at_start, module_of, count_of, with_names, up, does}
 use Rattle.module_grammar.specs.Rules.{grammar, kinds_at, is_of, is_name, is_value_name, is_byte, is_one, are_new, lines, may_end}
 use Rattle.module_grammar.specs.Texts.{whole, BeginsText}
@@ -59,12 +59,18 @@ or_at None other = other
 abbrev pub op_place : State → Tok → ℕ
 op_place before t = place_in before.held 0 t.at
 
+-- the place of the last name, or the one before
+abbrev pub last_place : List Name → Option ℕ → Option ℕ
+last_place [] before = before
+last_place (n ∷ ns) before = last_place ns (Some n.at)
+
 -- the values' name that passes the limit, where the token settles what the names before it are: the names held, the results
--- that `=` ends, or the name here
+-- that `=` ends, the result whose values a number counts, or the name here
 abbrev pub value_place : ℕ → State → Tok → ℕ
 value_place limit before t =
     place_in before.held (limit - before.counted)
-    (if is_byte 61 t.kind then or_at (name_past before.op.results (limit - before.counted)) t.at else t.at)
+    (if is_byte 61 t.kind then or_at (name_past before.op.results (limit - before.counted)) t.at
+    else (if is_number_kind t.kind then or_at (last_place before.op.results None) t.at else t.at))
 
 -- what a text has begun passes a limit
 abbrev pub passes : TextLimits → State → Bool
@@ -186,14 +192,23 @@ entry_fault level k s t =
 abbrev pub counts_held : Level → List Symbol → State → Tok → Bool
 counts_held level k s t = fits_first level sought.HeldNumber k && is_number_kind t.kind && is_one s.held && are_new s s.held
 
--- a second definition of a visible name: the limits that a new name would pass here, else Syntax
-abbrev pub second_fault : TextLimits → Level → List Symbol → State → Tok → GrammarFault
-second_fault limits level k s t =
+-- how many values a name has that begins an operation, where these tokens follow it: as many as the number behind a colon says,
+-- which stands for more than any limit where it is wide, else one
+abbrev pub values_before : List Tok → ℕ
+values_before (c ∷ n ∷ ts) = if is_byte 58 c.kind && is_number_kind n.kind then unwrap_or (number_of n) 4294967296 else 1
+values_before _ = 1
+
+-- a second definition of a visible name, before these tokens: the limits that a new name would pass here, else Syntax
+abbrev pub second_fault : TextLimits → Level → List Symbol → State → Tok → List Tok → GrammarFault
+second_fault limits level k s t rest =
     if begins && nat_lt limits.operations (s.begun + 1) then fault.Limit limited.Operations t.at
-    else (if nat_lt limits.values (up (with_names s.counted (results_open k s)) 1) then fault.Limit limited.Values t.at else fault.Syntax t.at)
+    else (if nat_lt limits.values (up (with_names s.counted (results_open k s)) values) then fault.Limit limited.Values t.at else fault.Syntax t.at)
   where
     begins : Bool
     begins = fits_first level sought.Op k
+
+    values : ℕ
+    values = if begins then values_before rest else 1
 
 -- an operation's name fits here, and the token is a name that no operation of the level has
 abbrev pub is_unknown_op : Level → List Symbol → Tok → Bool
@@ -212,12 +227,12 @@ abbrev pub is_second_name : Level → List Symbol → Tok → Bool
 is_second_name level k t = is_value_name t.kind && (fits_first level sought.Param k || fits_first level sought.Result k)
 
 -- the fault of a token that doesn't fit, where no name before it passes a limit
-abbrev pub token_fault : TextLimits → Level → List Symbol → State → Tok → GrammarFault
-token_fault limits level k s t =
+abbrev pub token_fault : TextLimits → Level → List Symbol → State → Tok → List Tok → GrammarFault
+token_fault limits level k s t rest =
     if is_unknown_op level k t then fault.UnknownOp t.at
     else (if is_unknown_type level k t then fault.UnknownType t.at
     else (if is_wide_number level k t then fault.WideNumber t.at
-    else (if is_second_name level k t then second_fault limits level k s t
+    else (if is_second_name level k t then second_fault limits level k s t rest
     else fault.Syntax t.at)))
 
 -- the operations begun pass their limit at the name held, or the values do
@@ -229,11 +244,6 @@ held_fault limits s t =
 abbrev pub names_fault : Option ℕ → GrammarFault → GrammarFault
 names_fault (Some at) other = fault.Limit limited.Values at
 names_fault None other = other
-
--- the place of the last name, or the one before
-abbrev pub last_place : List Name → Option ℕ → Option ℕ
-last_place [] before = before
-last_place (n ∷ ns) before = last_place ns (Some n.at)
 
 -- the place of the name that passes the limit, or of the last where the token is a wide number of its values
 abbrev pub past_or_wide : Option ℕ → List Symbol → State → Tok → Option ℕ
@@ -248,11 +258,27 @@ abbrev pub fault_or : Option GrammarFault → GrammarFault → GrammarFault
 fault_or (Some f) other = f
 fault_or None other = other
 
--- the fault of a token that doesn't fit
-abbrev pub refusal : TextLimits → Level → List Symbol → State → Tok → GrammarFault
-refusal limits level k s t =
+-- the fault of a token that doesn't fit, where the names held are within the limit as far as they can only be operands
+abbrev pub fault_there : TextLimits → Level → List Symbol → State → Tok → List Tok → GrammarFault
+fault_there limits level k s t rest =
     if counts_held level k s t then held_fault limits s t
-    else names_fault (open_name_past limits k s t) (fault_or (entry_fault level k s t) (token_fault limits level k s t))
+    else names_fault (open_name_past limits k s t) (fault_or (entry_fault level k s t) (token_fault limits level k s t rest))
+
+-- the names held here can only be operands
+abbrev pub holds_operands : List Symbol → State → Bool
+holds_operands (symbol.Rule rule.AfterHeld ∷ k) s = not (are_new s s.held)
+holds_operands (symbol.Word class.Use ∷ symbol.Do act.Hold ∷ k) s = not (are_new s s.held)
+holds_operands (symbol.Rule rule.AfterHeldColon ∷ k) s = not (is_one s.held && are_new s s.held)
+holds_operands _ s = false
+
+-- the place of the name held that passes the limit, where they can only be operands
+abbrev pub held_past : TextLimits → List Symbol → State → Option ℕ
+held_past limits k s =
+    if holds_operands k s && nat_lt (limits.values - s.counted) (length s.held) then Some (place_in s.held (limits.values - s.counted) 0) else None
+
+-- the fault of a token that doesn't fit, before these tokens
+abbrev pub refusal : TextLimits → Level → List Symbol → State → Tok → List Tok → GrammarFault
+refusal limits level k s t rest = names_fault (held_past limits k s) (fault_there limits level k s t rest)
 
 -- ---- the whole text
 
@@ -275,7 +301,7 @@ ended limits (Some last) s = elim (limit_passed limits s last s.last) [
 abbrev pub walk : TextLimits → Level → List Symbol → State → List Tok → Result State GrammarFault
 walk limits level k s [] = ended limits (close (grammar level) k s) s
 walk limits level k s (t ∷ ts) = elim (step (grammar level) k s t) [
-  | None ↦ Err (refusal limits level k s t)
+  | None ↦ Err (refusal limits level k s t ts)
   | Some p ↦ elim (limit_passed limits s (settled p.left p.state).state t) [
     | Some f ↦ Err f
     | None ↦ walk limits level (settled p.left p.state).left (settled p.left p.state).state ts
@@ -300,12 +326,17 @@ reached level k s (t ∷ ts) = elim (step (grammar level) k s t) [
   | Some p ↦ reached level (settled p.left p.state).left (settled p.left p.state).state ts
 ]
 
--- Why a fault is that of a text, of which the front leads to the place and the rest is left: the next token doesn't fit, or it
--- fits and passes a limit, or no token is left where the text isn't at its end, or what stands behind the last passes a limit.
+-- Why a fault is that of a text, of which the front leads to the place and the rest is left: the next token doesn't fit, and the
+-- names held that can only be operands are within the limit, or pass it; or the token fits and passes a limit; or no token is left
+-- where the text isn't at its end, or what stands behind the last passes a limit.
 pub data IsCause (limits : TextLimits) (level : Level) (k : List Symbol) (s : State) (front : List Tok) (place : Place State) :
     List Tok → GrammarFault → Type 0 where
   refused : (t : Tok) (rest : List Tok) → (Begins (grammar level) k s (front ++ t ∷ []) → ⊥)
-      → IsCause limits level k s front place (t ∷ rest) (refusal limits level place.left place.state t)
+      → held_past limits place.left place.state ≡ None
+      → IsCause limits level k s front place (t ∷ rest) (fault_there limits level place.left place.state t rest)
+  held : (t : Tok) (rest : List Tok) (at : ℕ) → (Begins (grammar level) k s (front ++ t ∷ []) → ⊥)
+      → held_past limits place.left place.state ≡ Some at
+      → IsCause limits level k s front place (t ∷ rest) (fault.Limit limited.Values at)
   passed : (t : Tok) (rest : List Tok) (p : Place State) (f : GrammarFault) → Begins (grammar level) k s (front ++ t ∷ [])
       → step (grammar level) place.left place.state t ≡ Some p
       → limit_passed limits place.state (settled p.left p.state).state t ≡ Some f
@@ -348,9 +379,12 @@ names_form level t = is_name t.kind && is_some (kind_among (kinds_at level) t.te
 abbrev pub begins_no_type : Tok → Bool
 begins_no_type t = not (begins_type t)
 
--- the tokens lead to a place, and what they begin is within the limits
-abbrev pub LeadsWithin : TextLimits → Level → List Tok → Type 0
-LeadsWithin limits level front = (place : Place State) × (reached level whole at_start front ≡ Some place) × IsWithin limits place.state
+-- The tokens lead to a place, and what they begin is within the limits, with the names held as far as they can only be operands.
+pub record LeadsWithin (limits : TextLimits) (level : Level) (front : List Tok) : Type 0 where
+  pub place : Place State
+  pub leads : reached level whole at_start front ≡ Some place
+  pub within : IsWithin limits place.state
+  pub held : held_past limits place.left place.state ≡ None
 
 -- Why something is unknown: at this place stands a wrong token, with which no text of the level goes on behind what stands
 -- before it, and a right one, put in its place, goes on there.

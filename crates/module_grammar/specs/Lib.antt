@@ -7,3 +7,5 @@ pub mod Texts
 pub mod Faults
 pub mod Choices
 pub mod Machines
+pub mod Steps
+pub mod Asked

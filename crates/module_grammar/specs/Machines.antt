@@ -23,16 +23,16 @@ abbrev pub IsClosed : Bool → Option State → State → Type 0
 IsClosed true end s = end ≡ Some s
 IsClosed false end s = end ≡ None
 
--- at a place, the token is the first that has a fault
-pub record IsStopped (limits : TextLimits) (level : Level) (before : Place State) (t : Tok) (f : GrammarFault) : Type 0 where
-  pub stops : (ts : List Tok) → walk limits level before.left before.state (t ∷ ts) ≡ Err f
+-- at a place, the first of the tokens has a fault
+abbrev pub IsStopped : TextLimits → Level → Place State → Tok → List Tok → GrammarFault → Type 0
+IsStopped limits level before t rest f = walk limits level before.left before.state (t ∷ rest) ≡ Err f
 
 -- from one place the token leads to the other
 pub record IsLed (limits : TextLimits) (level : Level) (before after : Place State) (t : Tok) : Type 0 where
   pub goes_on : (ts : List Tok) → walk limits level before.left before.state (t ∷ ts) ≡ walk limits level after.left after.state ts
   pub reaches : (front : List Tok) → reached level whole at_start front ≡ Some before → reached level whole at_start (front ++ t ∷ []) ≡ Some after
 
--- the token leads from one place to the other, or has this fault
-abbrev pub IsTaken : TextLimits → Level → Place State → Place State → Tok → Option GrammarFault → Type 0
-IsTaken limits level before after t (Some f) = IsStopped limits level before t f
-IsTaken limits level before after t None = IsLed limits level before after t
+-- the token, before these, leads from one place to the other, or has this fault
+abbrev pub IsTaken : TextLimits → Level → Place State → Place State → Tok → List Tok → Option GrammarFault → Type 0
+IsTaken limits level before after t rest (Some f) = IsStopped limits level before t rest f
+IsTaken limits level before after t rest None = IsLed limits level before after t

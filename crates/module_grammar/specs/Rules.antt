@@ -6,6 +6,9 @@ use Rattle.op_table.specs.declared.kind.OpKind.{OpKind}
 use Rattle.op_table.specs.declared.kind.OpKind.TheVariants as op
 use Rattle.op_table.specs.declared.rows.Level.{Level}
 use Rattle.op_table.specs.declared.rows.Level.TheVariants.{Source, Checked, Split, Low}
+use Rattle.op_table.specs.declared.form.Form.{Form}
+use Rattle.op_table.specs.declared.form.Form.TheVariants as shape
+use Rattle.op_table.specs.Rows.{row_of, body_kinds}
 use Rattle.module_grammar.specs.declared.symbols.Class.{Class}
 use Rattle.module_grammar.specs.declared.symbols.Class.TheVariants as class
 use Rattle.module_grammar.specs.declared.symbols.Keyword.{Keyword}
@@ -154,55 +157,40 @@ func =
 
 -- ---- the forms of operations, behind their names
 
+abbrev pub parts : Form → List Symbol
+parts shape.Binary = operand ++ comma ++ operand ++ typed ++ doing act.SameTypes
+parts shape.Compare = token class.Predicate ++ doing act.Predicate ++ comma ++ operand ++ comma ++ operand ++ typed ++ doing act.Twice ++ doing act.TruthResult
+parts shape.Select = operand ++ comma ++ operand ++ comma ++ operand ++ typed ++ doing act.SameTypes
+parts shape.Extend = operand ++ typed ++ doing act.Written ++ word key.To ++ part rule.Type ++ doing act.Results
+parts shape.Truncate = operand ++ typed ++ doing act.Written ++ word key.To ++ part rule.Type ++ doing act.Results
+parts shape.IndexCast = operand ++ typed ++ doing act.Written ++ word key.To ++ part rule.Type ++ doing act.Results
+parts shape.Constant = part rule.Literal
+parts shape.Assert = operand ++ comma ++ token class.Message ++ doing act.Message
+parts shape.Call = arguments ++ arrow ++ part rule.ResultTypes ++ doing act.Results
+parts shape.TryCall = arguments ++ arrow ++ token class.TruthType ++ doing act.PlainType ++ doing act.Results
+parts shape.Return = part rule.Held
+parts shape.For = index_param ++ equals ++ operand ++ word key.To ++ operand ++ word key.Step ++ operand ++ part rule.IterArgs ++ region
+parts shape.If = operand ++ part rule.Branches
+parts shape.While = part rule.Inits ++ listed ++ doing act.WrittenParams ++ arrow ++ part rule.ResultTypes ++ doing act.Results ++ region ++ word key.Do ++ brace ++ doing act.OpenRegion ++ part rule.BlockParams ++ rest_of_body
+parts shape.Condition = paren ++ operand ++ close_paren ++ part rule.Held
+parts shape.Parallel = paren ++ index_param ++ part rule.MoreIndexParams ++ close_paren ++ equals ++ bounds ++ word key.To ++ bounds ++ word key.Step ++ bounds ++ region
+parts shape.Reduce = []
+parts shape.Yield = part rule.Held
+parts shape.Alloc = paren ++ part rule.Uses ++ close_paren ++ typed_as class.MemrefType ++ doing act.Results
+parts shape.Dealloc = operand ++ typed_as class.MemrefType ++ doing act.Written
+parts shape.Load = operand ++ indices ++ typed_as class.MemrefType ++ doing act.ElementResult ++ doing act.Written
+parts shape.Store = operand ++ comma ++ operand ++ indices ++ typed_as class.MemrefType ++ doing act.Written
+parts shape.Dim = operand ++ comma ++ operand ++ typed_as class.MemrefType ++ doing act.Written ++ doing act.IndexResult
+parts shape.Execute = part rule.Dependencies ++ doing act.Group ++ part rule.ValueOperands ++ doing act.Group ++ doing act.TokenResult ++ part rule.OpResults ++ region
+parts shape.TaskYield = part rule.Held
+parts shape.Await = operand ++ typed ++ doing act.PayloadResult ++ doing act.Written
+parts shape.AwaitAll = operand
+parts shape.CreateGroup = operand ++ typed_as class.GroupType ++ doing act.Results
+parts shape.AddToGroup = operand ++ comma ++ operand ++ typed ++ doing act.Written ++ doing act.IndexResult
+parts shape.Other = []
+
 abbrev pub form : OpKind → List Symbol
-form op.AioTryCall = arguments ++ arrow ++ token class.TruthType ++ doing act.PlainType ++ doing act.Results
-form op.ArithAddi = operand ++ comma ++ operand ++ typed ++ doing act.SameTypes
-form op.ArithAndi = operand ++ comma ++ operand ++ typed ++ doing act.SameTypes
-form op.ArithCmpi = token class.Predicate ++ doing act.Predicate ++ comma ++ operand ++ comma ++ operand ++ typed ++ doing act.Twice ++ doing act.TruthResult
-form op.ArithConstant = part rule.Literal
-form op.ArithDivsi = operand ++ comma ++ operand ++ typed ++ doing act.SameTypes
-form op.ArithDivui = operand ++ comma ++ operand ++ typed ++ doing act.SameTypes
-form op.ArithExtsi = operand ++ typed ++ doing act.Written ++ word key.To ++ part rule.Type ++ doing act.Results
-form op.ArithExtui = operand ++ typed ++ doing act.Written ++ word key.To ++ part rule.Type ++ doing act.Results
-form op.ArithIndexCast = operand ++ typed ++ doing act.Written ++ word key.To ++ part rule.Type ++ doing act.Results
-form op.ArithIndexCastui = operand ++ typed ++ doing act.Written ++ word key.To ++ part rule.Type ++ doing act.Results
-form op.ArithMaxsi = operand ++ comma ++ operand ++ typed ++ doing act.SameTypes
-form op.ArithMaxui = operand ++ comma ++ operand ++ typed ++ doing act.SameTypes
-form op.ArithMinsi = operand ++ comma ++ operand ++ typed ++ doing act.SameTypes
-form op.ArithMinui = operand ++ comma ++ operand ++ typed ++ doing act.SameTypes
-form op.ArithMuli = operand ++ comma ++ operand ++ typed ++ doing act.SameTypes
-form op.ArithOri = operand ++ comma ++ operand ++ typed ++ doing act.SameTypes
-form op.ArithRemsi = operand ++ comma ++ operand ++ typed ++ doing act.SameTypes
-form op.ArithRemui = operand ++ comma ++ operand ++ typed ++ doing act.SameTypes
-form op.ArithSelect = operand ++ comma ++ operand ++ comma ++ operand ++ typed ++ doing act.SameTypes
-form op.ArithShli = operand ++ comma ++ operand ++ typed ++ doing act.SameTypes
-form op.ArithShrsi = operand ++ comma ++ operand ++ typed ++ doing act.SameTypes
-form op.ArithShrui = operand ++ comma ++ operand ++ typed ++ doing act.SameTypes
-form op.ArithSubi = operand ++ comma ++ operand ++ typed ++ doing act.SameTypes
-form op.ArithTrunci = operand ++ typed ++ doing act.Written ++ word key.To ++ part rule.Type ++ doing act.Results
-form op.ArithXori = operand ++ comma ++ operand ++ typed ++ doing act.SameTypes
-form op.AsyncAddToGroup = operand ++ comma ++ operand ++ typed ++ doing act.Written ++ doing act.IndexResult
-form op.AsyncAwait = operand ++ typed ++ doing act.PayloadResult ++ doing act.Written
-form op.AsyncAwaitAll = operand
-form op.AsyncCreateGroup = operand ++ typed_as class.GroupType ++ doing act.Results
-form op.AsyncExecute = part rule.Dependencies ++ doing act.Group ++ part rule.ValueOperands ++ doing act.Group ++ doing act.TokenResult ++ part rule.OpResults ++ region
-form op.AsyncYield = part rule.Held
-form op.CfAssert = operand ++ comma ++ token class.Message ++ doing act.Message
-form op.FuncCall = arguments ++ arrow ++ part rule.ResultTypes ++ doing act.Results
-form op.FuncReturn = part rule.Held
-form op.MemrefAlloc = paren ++ part rule.Uses ++ close_paren ++ typed_as class.MemrefType ++ doing act.Results
-form op.MemrefDealloc = operand ++ typed_as class.MemrefType ++ doing act.Written
-form op.MemrefDim = operand ++ comma ++ operand ++ typed_as class.MemrefType ++ doing act.Written ++ doing act.IndexResult
-form op.MemrefLoad = operand ++ indices ++ typed_as class.MemrefType ++ doing act.ElementResult ++ doing act.Written
-form op.MemrefStore = operand ++ comma ++ operand ++ indices ++ typed_as class.MemrefType ++ doing act.Written
-form op.ScfCondition = paren ++ operand ++ close_paren ++ part rule.Held
-form op.ScfFor = index_param ++ equals ++ operand ++ word key.To ++ operand ++ word key.Step ++ operand ++ part rule.IterArgs ++ region
-form op.ScfIf = operand ++ part rule.Branches
-form op.ScfParallel = paren ++ index_param ++ part rule.MoreIndexParams ++ close_paren ++ equals ++ bounds ++ word key.To ++ bounds ++ word key.Step ++ bounds ++ region
-form op.ScfReduce = []
-form op.ScfWhile = part rule.Inits ++ listed ++ doing act.WrittenParams ++ arrow ++ part rule.ResultTypes ++ doing act.Results ++ region ++ word key.Do ++ brace ++ doing act.OpenRegion ++ part rule.BlockParams ++ rest_of_body
-form op.ScfYield = part rule.Held
-form _ = []
+form k = parts (row_of k).form
 
 -- the kinds that stand at every level, in the order of their names
 abbrev pub plain_kinds : List OpKind
@@ -216,10 +204,10 @@ plain_kinds =
 
 -- the kinds that texts of a level may hold
 abbrev pub kinds_at : Level → List OpKind
-kinds_at Source = plain_kinds
-kinds_at Checked = plain_kinds
-kinds_at Split = op.AioTryCall ∷ plain_kinds
-kinds_at Low = op.AioTryCall ∷ plain_kinds
+kinds_at Source = body_kinds Source
+kinds_at Checked = body_kinds Checked
+kinds_at Split = body_kinds Split
+kinds_at Low = body_kinds Low
 
 -- ---- the rules
 
@@ -245,13 +233,13 @@ is_name _ = false
 -- the name of each kind, its form, and what follows it
 abbrev pub forms_then : List Symbol → List Symbol → List OpKind → List Line
 forms_then before ss [] = []
-forms_then before ss (k ∷ ks) = line (class.OpName k) (before ++ doing act.Kind ++ form k ++ ss) ∷ forms_then before ss ks
+forms_then before ss (k ∷ ks) = line (class.OpName k) (before ++ doing (act.Kind k) ++ form k ++ ss) ∷ forms_then before ss ks
 
 abbrev pub form_or_none : List Symbol → List Symbol → Option OpKind → Option Line
 form_or_none before ss None = None
-form_or_none before ss (Some k) = Some (line (class.OpName k) (before ++ form k ++ ss))
+form_or_none before ss (Some k) = Some (line (class.OpName k) (before ++ doing (act.Kind k) ++ form k ++ ss))
 
--- the line of the form whose name the token is; `before` is what stands before the form
+-- the line of the form whose name the token is
 abbrev pub form_chosen : Level → List Symbol → List Symbol → Tok → Option Line
 form_chosen level before ss t = if is_name t.kind then form_or_none before ss (kind_among (kinds_at level) t.text) else None
 

@@ -32,7 +32,7 @@ use Rattle.module_grammar.specs.declared.state.OpenFunc.{OpenFunc}
 use Rattle.module_grammar.specs.declared.state.Entry.{Entry}
 use Rattle.module_grammar.specs.declared.state.Entry.TheVariants as entry
 use Rattle.module_grammar.specs.declared.state.State.{State}
-use Rattle.module_grammar.specs.Tokens.{kind_named, number_of, type_of, payload_of, predicate_of, symbol_of, string_of, is_number_kind}
+use Rattle.module_grammar.specs.Tokens.{number_of, type_of, payload_of, predicate_of, symbol_of, string_of, is_number_kind}
 
 -- ---- counting
 
@@ -494,7 +494,7 @@ does act.EndFunc s = record s {
   } ∷ [];
 }
 does act.BeginOp s = begin_op s
-does act.Kind s = with_op s (record (s.op) { kind = kind_named s.last.text })
+does (act.Kind k) s = with_op s (record (s.op) { kind = k })
 does act.EndOp s = end_op s
 does act.OpAt s = numbered_op s.entry_at s
 does act.OpenRegion s = open_region s

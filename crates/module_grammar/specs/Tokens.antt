@@ -1,10 +1,10 @@
 -- What one token says: a word, a number, a type, a symbol, a string.
-use Rattle.std.specs.Prelude.{ℕ, ◌+◌, ◌-◌, ◌*◌, ◌%◌, min, Bool, true, false, not, ◌&&◌, ◌||◌, if◌then◌else◌, ◌==◌, nat_le, nat_lt, List, [], ◌∷◌, ◌++◌, length, drop, take, filter, Option, Some, None, codes, bytes_eq, option_map, unwrap_or}
+use Rattle.std.specs.Prelude.{ℕ, ◌+◌, ◌-◌, ◌*◌, ◌%◌, min, Bool, true, false, not, ◌&&◌, ◌||◌, if◌then◌else◌, ◌==◌, nat_le, nat_lt, List, [], ◌∷◌, ◌++◌, length, drop, take, filter, Option, Some, None, codes, bytes_eq, option_map}
 use Rattle.mlir_lex.specs.declared.kinds.TokenKind.{TokenKind}
 use Rattle.mlir_lex.specs.declared.kinds.TokenKind.TheVariants as kind
 use Rattle.op_table.specs.declared.kind.OpKind.{OpKind}
-use Rattle.op_table.specs.declared.kind.OpKind.TheVariants.{FuncCall, FuncReturn, ScfReduce}
-use Rattle.op_table.specs.Rows.{name_of, all_kinds}
+use Rattle.op_table.specs.declared.kind.OpKind.TheVariants.{FuncCall, FuncReturn}
+use Rattle.op_table.specs.Rows.{name_of}
 use Rattle.int_ops.specs.declared.Width.{Width}
 use Rattle.int_ops.specs.declared.Width.TheVariants.{W1, W8, W16, W32, W64}
 use Rattle.int_ops.specs.declared.Pred.{Pred}
@@ -58,10 +58,6 @@ among (x ∷ xs) text = if bytes_eq text x.0 then Some x.1 else among xs text
 abbrev pub kind_among : List OpKind → List ℕ → Option OpKind
 kind_among [] text = None
 kind_among (k ∷ ks) text = if is_name_of k text then Some k else kind_among ks text
-
--- the kind that a text names
-abbrev pub kind_named : List ℕ → OpKind
-kind_named text = unwrap_or (kind_among all_kinds text) ScfReduce
 
 -- ---- numbers
 

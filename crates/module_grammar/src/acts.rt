@@ -1,22 +1,25 @@
 //! What the acts make of the state.
 ghost use Rattle.std.specs.Prelude.{◌≡◌, ◌∷◌, [], OnOk};
 ghost use Rattle.module_grammar.specs.State.{no_op, no_body, no_func, does, add_operand, add_result, add_param, add_block_param, end_op, begin_op, add_types, add_written};
+ghost use Rattle.module_grammar.specs.Steps.{closed_op, results_shown, op_joined};
 ghost use Rattle.module_grammar.specs.declared.symbols.Act.TheVariants as act;
 
-use crate::copies::{copy_type, copy_types};
+use crate::bytes::Bytes;
+use crate::copies::copied_twice;
 use crate::counting::{as_number, number_up, up};
 use crate::names::{resolve, resolve_at, values_of, with_names};
-use crate::parts::{ungrouped, with_else};
-use crate::state::{Entry, OpenBody, OpenFunc, OpenOp, Outer, Param, State, Tok};
-use ir_forms::{Attr, Op, OpKind, Ty, Width};
+use crate::parts::{add_else, ungrouped};
+use crate::room::{add, join};
+use crate::state::{Entry, OpenBody, OpenFunc, OpenOp, Param, State, Tok};
+use ir_forms::{Attr, Op, OpKind, Ty, ValueNo};
 use lists::Items;
 use name_lists::NameList;
 use std::alloc::{AllocError, Global};
 use std::mem;
 
-impl OpenOp {
+impl<'a> OpenOp<'a> {
     /// An operation of which nothing is read yet.
-    pub fn blank(alloc: Global, at: u32) -> OpenOp
+    pub fn blank(alloc: Global, at: u32) -> OpenOp<'a>
         ensures { result ≡ no_op at }
     {
         OpenOp {
@@ -34,8 +37,8 @@ impl OpenOp {
     }
 }
 
-impl OpenBody {
-    pub fn blank(alloc: Global) -> OpenBody
+impl<'a> OpenBody<'a> {
+    pub fn blank(alloc: Global) -> OpenBody<'a>
         ensures { result ≡ no_body }
     {
         OpenBody {
@@ -46,8 +49,8 @@ impl OpenBody {
     }
 }
 
-impl OpenFunc {
-    pub fn blank(alloc: Global, at: u32) -> OpenFunc
+impl<'a> OpenFunc<'a> {
+    pub fn blank(alloc: Global, at: u32) -> OpenFunc<'a>
         ensures { result ≡ no_func at }
     {
         OpenFunc {
@@ -59,19 +62,36 @@ impl OpenFunc {
     }
 }
 
+/// The operation that is over, of these results.
+fn op_of(over: OpenOp, results: Items<ValueNo>) -> Op
+    ensures { result ≡ closed_op over.entry results }
+{
+    Op {
+        kind: over.kind,
+        at: over.at,
+        operands: over.operands,
+        groups: over.groups,
+        written: over.written,
+        results,
+        types: over.types,
+        attr: over.attr,
+        regions: over.regions,
+    }
+}
+
 #[tactic(auto, unfolding(crate::specs::State::does))]
-impl State {
+impl<'a> State<'a> {
     pub(crate) fn begin_func(&mut self, alloc: Global)
         ensures { self.new ≡ does act.BeginFunc self.old }
     {
         self.begun = up(self.begun, 1);
         self.functions = up(self.functions, 1);
         self.func = OpenFunc::blank(alloc, as_number(self.begun));
-        self.visible = NameList::new(alloc);
+        let _names = mem::replace(&mut self.visible, NameList::new(alloc));
         self.next = 0;
         self.op = OpenOp::blank(alloc, 0);
         self.body = OpenBody::blank(alloc);
-        self.outer = Items::new(alloc);
+        let _outer = mem::replace(&mut self.outer, Items::new(alloc));
     }
 
     pub(crate) fn func_results(&mut self, alloc: Global)
@@ -95,25 +115,30 @@ impl State {
         self.op = OpenOp::blank(alloc, as_number(self.begun));
     }
 
+    /// The names of the results become visible.
+    fn show_results(&mut self, alloc: Global) -> Result<(), AllocError>
+        ensures { OnOk result (self.new ≡ results_shown self.old) }
+    {
+        let names = mem::replace(&mut self.op.results, NameList::new(alloc));
+        self.visible.append(alloc, names)
+    }
+
+    /// The operation, of these results, joins its body.
+    fn close_op(&mut self, alloc: Global, values: Items<ValueNo>) -> Result<(), AllocError>
+        ensures { OnOk result (self.new ≡ op_joined values self.old) }
+    {
+        let open = mem::replace(&mut self.op, OpenOp::blank(alloc, 0));
+        self.body.ops.push(op_of(open, values))
+    }
+
     /// The operation is over: it joins its body, and its results become visible.
     pub(crate) fn end_op(&mut self, alloc: Global) -> Result<(), AllocError>
         ensures { OnOk result (self.new ≡ end_op self.old) }
     {
-        let open = mem::replace(&mut self.op, OpenOp::blank(alloc, 0));
-        let results = values_of(alloc, open.results.as_slice())?;
-        let regions = with_else(alloc, open.kind, open.regions)?;
-        self.body.ops.push(Op {
-            kind: open.kind,
-            at: open.at,
-            operands: open.operands,
-            groups: open.groups,
-            written: open.written,
-            results,
-            types: open.types,
-            attr: open.attr,
-            regions,
-        })?;
-        self.visible.append(alloc, open.results)
+        let values = values_of(alloc, self.op.results.as_slice())?;
+        add_else(alloc, self.op.kind, &mut self.op.regions)?;
+        self.show_results(alloc)?;
+        self.close_op(alloc, values)
     }
 
     pub(crate) fn op_at(&mut self)
@@ -125,11 +150,10 @@ impl State {
     }
 
     /// The token names the next result.
-    pub(crate) fn add_result(&mut self, alloc: Global, token: &Tok) -> Result<(), AllocError>
+    pub(crate) fn add_result(&mut self, alloc: Global, token: &Tok<'a>) -> Result<(), AllocError>
         ensures { OnOk result (self.new ≡ add_result token.now self.old) }
     {
-        let name = token.name(alloc, self.next)?;
-        self.op.results.push(alloc, name)?;
+        self.op.results.push(alloc, token.name(self.next))?;
         self.next = number_up(self.next, 1);
         Ok(())
     }
@@ -137,8 +161,7 @@ impl State {
     pub(crate) fn result(&mut self, alloc: Global) -> Result<(), AllocError>
         ensures { OnOk result (self.new ≡ does act.Result self.old) }
     {
-        let name = self.last.name(alloc, self.next)?;
-        self.op.results.push(alloc, name)?;
+        self.op.results.push(alloc, self.last.name(self.next))?;
         self.next = number_up(self.next, 1);
         Ok(())
     }
@@ -150,22 +173,22 @@ impl State {
     }
 
     /// The token is a use of the next operand.
-    pub(crate) fn add_operand(&mut self, alloc: Global, token: &Tok) -> Result<(), AllocError>
+    pub(crate) fn add_operand(&mut self, token: &Tok<'a>) -> Result<(), AllocError>
         ensures { OnOk result (self.new ≡ add_operand token.now self.old) }
     {
         let value = resolve(&self.visible, token.text.as_slice());
         self.op.operands.push(value)?;
-        self.used = Items::from_slice(alloc, token.text.as_slice())?;
+        self.used = token.text.copy();
         self.counted = up(self.counted, 1);
         Ok(())
     }
 
-    pub(crate) fn operand(&mut self, alloc: Global) -> Result<(), AllocError>
+    pub(crate) fn operand(&mut self) -> Result<(), AllocError>
         ensures { OnOk result (self.new ≡ does act.Operand self.old) }
     {
         let value = resolve(&self.visible, self.last.text.as_slice());
         self.op.operands.push(value)?;
-        self.used = Items::from_slice(alloc, self.last.text.as_slice())?;
+        self.used = self.last.text.copy();
         self.counted = up(self.counted, 1);
         Ok(())
     }
@@ -180,15 +203,14 @@ impl State {
     pub(crate) fn hold(&mut self, alloc: Global) -> Result<(), AllocError>
         ensures { OnOk result (self.new ≡ does act.Hold self.old) }
     {
-        let token = self.last.copy(alloc)?;
-        self.held.push(alloc, token)
+        self.held.push(alloc, self.last.copy())
     }
 
     /// The last token names a parameter of this type.
     pub(crate) fn add_param(&mut self, alloc: Global, ty: Ty) -> Result<(), AllocError>
         ensures { OnOk result (self.new ≡ add_param ty self.old) }
     {
-        let name = self.last.name(alloc, self.next)?;
+        let name = self.last.name(self.next);
         self.op.params.push(alloc, Param { name, ty })?;
         self.next = number_up(self.next, 1);
         self.counted = up(self.counted, 1);
@@ -198,30 +220,21 @@ impl State {
     pub(crate) fn block_param(&mut self, alloc: Global) -> Result<(), AllocError>
         ensures { OnOk result (self.new ≡ does act.BlockParam self.old) }
     {
-        let name = self.last.name(alloc, self.next)?;
+        self.visible.push(alloc, self.last.name(self.next))?;
         self.body.params.push(Param {
-            name,
+            name: self.last.name(self.next),
             ty: Ty::Untyped,
         })?;
-        let name = self.last.name(alloc, self.next)?;
-        self.visible.push(alloc, name)?;
         self.next = number_up(self.next, 1);
         self.counted = up(self.counted, 1);
         Ok(())
     }
 
-    /// These types join those of the results.
-    pub(crate) fn add_types(&mut self, types: Items<Ty>) -> Result<(), AllocError>
-        ensures { OnOk result (self.new ≡ add_types types self.old) }
-    {
-        self.op.types.append(types)
-    }
-
     /// This type joins those of the results.
-    pub(crate) fn add_type(&mut self, ty: Ty) -> Result<(), AllocError>
+    pub(crate) fn add_type(&mut self, alloc: Global, ty: Ty) -> Result<(), AllocError>
         ensures { OnOk result (self.new ≡ add_types (ty ∷ []) self.old) }
     {
-        self.op.types.push(ty)
+        add(alloc, &mut self.op.types, ty)
     }
 
     /// The types read join those that the form writes for its operands.
@@ -229,34 +242,30 @@ impl State {
         ensures { OnOk result (self.new ≡ does act.Written self.old) }
     {
         let types = mem::replace(&mut self.read, Items::new(alloc));
-        self.op.written.append(types)
+        join(&mut self.op.written, types)
     }
 
     pub(crate) fn twice(&mut self, alloc: Global) -> Result<(), AllocError>
         ensures { OnOk result (self.new ≡ does act.Twice self.old) }
     {
-        let mut types = mem::replace(&mut self.read, Items::new(alloc));
-        let again = copy_types(alloc, types.as_slice())?;
-        types.append(again)?;
-        self.op.written.append(types)
+        let types = copied_twice(alloc, self.read.as_slice())?;
+        self.read = Items::new(alloc);
+        join(&mut self.op.written, types)
     }
 
     pub(crate) fn same_types(&mut self, alloc: Global) -> Result<(), AllocError>
         ensures { OnOk result (self.new ≡ does act.SameTypes self.old) }
     {
-        let mut types = mem::replace(&mut self.read, Items::new(alloc));
-        let again = copy_types(alloc, types.as_slice())?;
-        let results = copy_types(alloc, types.as_slice())?;
-        types.append(again)?;
-        self.op.written.append(types)?;
-        self.op.types.append(results)
+        let types = copied_twice(alloc, self.read.as_slice())?;
+        join(&mut self.op.written, types)?;
+        self.results(alloc)
     }
 
     pub(crate) fn results(&mut self, alloc: Global) -> Result<(), AllocError>
         ensures { OnOk result (self.new ≡ does act.Results self.old) }
     {
         let types = mem::replace(&mut self.read, Items::new(alloc));
-        self.op.types.append(types)
+        join(&mut self.op.types, types)
     }
 
     pub(crate) fn begin_dict(&mut self)

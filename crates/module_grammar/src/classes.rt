@@ -7,7 +7,7 @@ ghost use Rattle.module_grammar.specs.State.{is_named, param_names, is_wide};
 use crate::names::is_named;
 use crate::state::{Entry, Name, Param, State, Tok};
 use crate::symbols::{Class, Keyword};
-use crate::words::is_name_of;
+use crate::words::{is_name_of, word_of};
 use ir_forms::{Ty, Width};
 use mlir_lex::TokenKind;
 use name_lists::NameList;
@@ -16,22 +16,7 @@ use std::alloc::{AllocError, Global};
 fn is_word(keyword: Keyword, text: &[u8]) -> bool
     ensures { result ≡ bytes_eq text.now (word_of keyword) }
 {
-    match keyword {
-        Keyword::As => text == b"as".as_slice(),
-        Keyword::Attributes => text == b"attributes".as_slice(),
-        Keyword::Do => text == b"do".as_slice(),
-        Keyword::Else => text == b"else".as_slice(),
-        Keyword::False => text == b"false".as_slice(),
-        Keyword::Func => text == b"func.func".as_slice(),
-        Keyword::IterArgs => text == b"iter_args".as_slice(),
-        Keyword::Loc => text == b"loc".as_slice(),
-        Keyword::Module => text == b"module".as_slice(),
-        Keyword::Private => text == b"private".as_slice(),
-        Keyword::Public => text == b"public".as_slice(),
-        Keyword::Step => text == b"step".as_slice(),
-        Keyword::To => text == b"to".as_slice(),
-        Keyword::True => text == b"true".as_slice(),
-    }
+    text == word_of(keyword).as_bytes()
 }
 
 pub(crate) fn is_byte(byte: u8, kind: TokenKind) -> bool
@@ -46,14 +31,7 @@ pub(crate) fn is_byte(byte: u8, kind: TokenKind) -> bool
 fn is_bracket(byte: u8) -> bool
     ensures { result ≡ is_bracket_byte byte }
 {
-    byte == 40
-        || byte == 41
-        || byte == 123
-        || byte == 125
-        || byte == 91
-        || byte == 93
-        || byte == 60
-        || byte == 62
+    matches!(byte, b'(' | b')' | b'{' | b'}' | b'[' | b']' | b'<' | b'>')
 }
 
 fn is_inner(kind: TokenKind) -> bool
@@ -192,10 +170,10 @@ pub fn is_of(alloc: Global, class: Class, token: &Tok) -> Result<bool, AllocErro
             matches!(kind, TokenKind::BangName) && text == b"!async.value".as_slice(),
         ),
         Class::BlockName => Ok(matches!(kind, TokenKind::BlockName)),
-        Class::HeldEquals => Ok(is_byte(61, kind)),
-        Class::EntryComma => Ok(is_byte(44, kind)),
-        Class::EntryClose => Ok(is_byte(125, kind)),
-        Class::EntryWord => Ok(is_inner(kind) && !is_byte(44, kind)),
+        Class::HeldEquals => Ok(is_byte(b'=', kind)),
+        Class::EntryComma => Ok(is_byte(b',', kind)),
+        Class::EntryClose => Ok(is_byte(b'}', kind)),
+        Class::EntryWord => Ok(is_inner(kind) && !is_byte(b',', kind)),
         Class::AnyWord => Ok(is_inner(kind)),
         Class::End => Ok(matches!(kind, TokenKind::End)),
     }
@@ -211,7 +189,7 @@ fn is_negatable(number: Option<u64>) -> bool
     }
 }
 
-impl State {
+impl<'a> State<'a> {
     /// Whether the names held are new: none is visible or a result of the open operation, and none stands twice.
     pub fn holds_new(&self) -> bool
         ensures { result ≡ are_new self.now self.now.held }

@@ -1,5 +1,5 @@
 //! Exact copies of types, names and tokens.
-ghost use Rattle.std.specs.Prelude.{◌≡◌, IfOk};
+ghost use Rattle.std.specs.Prelude.{◌≡◌, ◌++◌, IfOk, OnOk};
 ghost use Rattle.module_grammar.specs.State.{name_at};
 
 use crate::state::{Name, Tok};
@@ -16,7 +16,7 @@ fn copy_memref(alloc: Global, memref: &MemTy) -> Result<MemTy, AllocError>
     })
 }
 
-fn copy_payload(alloc: Global, payload: &ValTy) -> Result<ValTy, AllocError>
+pub fn copy_payload(alloc: Global, payload: &ValTy) -> Result<ValTy, AllocError>
     ensures { IfOk result (λ copy. copy ≡ payload.now) }
 {
     match payload {
@@ -52,50 +52,60 @@ pub fn copy_type(alloc: Global, ty: &Ty) -> Result<Ty, AllocError>
     }
 }
 
-pub fn copy_types(alloc: Global, types: &[Ty]) -> Result<Items<Ty>, AllocError>
-    ensures { IfOk result (λ copy. copy ≡ types.now) }
+/// Adds copies of the types at the end.
+fn push_copies(alloc: Global, copies: &mut Vec<Ty>, types: &[Ty]) -> Result<(), AllocError>
+    ensures { OnOk result (copies.new.items ≡ copies.old.items ++ types.now) }
 {
-    let mut copy = Items::new(alloc);
     for ty in types {
-        copy.push(copy_type(alloc, ty)?)?;
+        copies.push(copy_type(alloc, ty)?)?;
     }
-    Ok(copy)
+    Ok(())
 }
 
-impl Tok {
-    pub fn copy(&self, alloc: Global) -> Result<Tok, AllocError>
-        ensures { IfOk result (λ copy. copy ≡ self.now) }
+/// Copies of the types, and of them once more.
+pub fn copied_twice(alloc: Global, types: &[Ty]) -> Result<Items<Ty>, AllocError>
+    ensures { IfOk result (λ copies. copies ≡ types.now ++ types.now) }
+{
+    let mut copies = Vec::with_capacity(alloc, types.len().saturating_mul(2))?;
+    push_copies(alloc, &mut copies, types)?;
+    push_copies(alloc, &mut copies, types)?;
+    Ok(Items::from_vec(copies))
+}
+
+impl<'a> Tok<'a> {
+    pub fn copy(&self) -> Tok<'a>
+        ensures { result ≡ self.now }
     {
-        Ok(Tok {
+        Tok {
             kind: self.kind,
-            text: Items::from_slice(alloc, self.text.as_slice())?,
+            text: self.text.copy(),
             at: self.at,
             joined: self.joined,
-        })
+        }
     }
 
     /// The name that the token defines, of one value.
-    pub fn name(&self, alloc: Global, first: u32) -> Result<Name, AllocError>
-        ensures { IfOk result (λ name. name ≡ name_at self.now first) }
+    pub fn name(&self, first: u32) -> Name<'a>
+        ensures { result ≡ name_at self.now first }
     {
-        Ok(Name {
-            text: Items::from_slice(alloc, self.text.as_slice())?,
+        Name {
+            text: self.text.copy(),
             at: self.at,
             first,
             count: None,
-        })
+        }
     }
 }
 
-impl Name {
-    pub fn copy(&self, alloc: Global) -> Result<Name, AllocError>
-        ensures { IfOk result (λ copy. copy ≡ self.now) }
+impl<'a> Name<'a> {
+    pub fn copy(&self) -> Name<'a>
+        ensures { result ≡ self.now }
     {
-        Ok(Name {
-            text: Items::from_slice(alloc, self.text.as_slice())?,
+        Name {
+            text: self.text.copy(),
             at: self.at,
             first: self.first,
             count: self.count,
-        })
+        }
     }
 }

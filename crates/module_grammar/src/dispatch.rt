@@ -8,7 +8,7 @@ use ir_forms::{Ty, Width};
 use std::alloc::{AllocError, Global};
 
 #[tactic(auto, unfolding(crate::specs::State::does))]
-impl State {
+impl<'a> State<'a> {
     /// Does an act. Without memory the state is no longer of use.
     pub fn act(&mut self, alloc: Global, act: Act) -> Result<(), AllocError>
         ensures { OnOk result (self.new ≡ does act self.old) }
@@ -33,8 +33,8 @@ impl State {
                 self.begin_op(alloc);
                 Ok(())
             }
-            Act::Kind => {
-                self.kind();
+            Act::Kind(kind) => {
+                self.op.kind = kind;
                 Ok(())
             }
             Act::EndOp => self.end_op(alloc),
@@ -50,7 +50,7 @@ impl State {
                 self.count_names();
                 Ok(())
             }
-            Act::Operand => self.operand(alloc),
+            Act::Operand => self.operand(),
             Act::OperandIndex => self.operand_index(),
             Act::Group => self.group(),
             Act::Hold => self.hold(alloc),
@@ -70,9 +70,9 @@ impl State {
             Act::Twice => self.twice(alloc),
             Act::SameTypes => self.same_types(alloc),
             Act::Results => self.results(alloc),
-            Act::TruthResult => self.add_type(Ty::Int(Width::W1)),
-            Act::IndexResult => self.add_type(Ty::Index),
-            Act::TokenResult => self.add_type(Ty::Token),
+            Act::TruthResult => self.add_type(alloc, Ty::Int(Width::W1)),
+            Act::IndexResult => self.add_type(alloc, Ty::Index),
+            Act::TokenResult => self.add_type(alloc, Ty::Token),
             Act::ElementResult => self.element_result(alloc),
             Act::PayloadResult => self.payload_result(alloc),
             Act::Literal => {

@@ -3,6 +3,7 @@
 #![tactic(auto)]
 
 mod acts;
+mod bytes;
 mod choose;
 mod classes;
 mod copies;
@@ -12,7 +13,6 @@ mod faults;
 mod forms;
 mod laws;
 mod limits;
-mod lines;
 mod machine;
 mod names;
 mod numbers;
@@ -22,23 +22,19 @@ mod places;
 mod reader;
 mod refusal;
 mod region_acts;
-mod region_lines;
+mod room;
+mod rows;
 mod sought;
 mod state;
 mod strings;
 mod symbols;
-#[cfg(test)]
-mod tests;
 mod token_acts;
 mod types;
-mod value_lines;
 mod words;
 
+pub use bytes::Bytes;
 pub use faults::{GrammarFault, Limited, TextLimits};
-pub use laws::{
-    accepts_exactly, finds_first_fault, finds_unknown_type, has_one_module, names_first_fault,
-    reads_each_text, reads_texts_alone, tells_unknown_op, tells_unknown_type,
-};
+pub use laws::{accepts_exactly, names_first_fault};
 pub use reader::read;
 pub use sought::Sought;
 pub use state::{Entry, Name, OpenBody, OpenFunc, OpenOp, Outer, Param, State, Tok};

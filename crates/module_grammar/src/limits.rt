@@ -4,7 +4,8 @@ ghost use Rattle.module_grammar.specs.Faults.{passes, limit_passed, op_place, va
 
 use crate::classes::is_byte;
 use crate::faults::{GrammarFault, Limited, TextLimits};
-use crate::places::{name_past, place_in};
+use crate::numbers::is_number;
+use crate::places::{last_place, name_past, place_in};
 use crate::state::{State, Tok};
 
 /// Where an operation begins with which the token ends: at the first of the names held, or here.
@@ -19,8 +20,10 @@ fn value_place(limit: u32, before: &State, token: &Tok) -> u32
     ensures { result ≡ value_place limit before.now token.now }
 {
     let room = u64::from(limit).saturating_sub(before.counted);
-    let here = if is_byte(61, token.kind) {
+    let here = if is_byte(b'=', token.kind) {
         name_past(before.op.results.as_slice(), room).unwrap_or(token.at)
+    } else if is_number(token.kind) {
+        last_place(before.op.results.as_slice()).unwrap_or(token.at)
     } else {
         token.at
     };

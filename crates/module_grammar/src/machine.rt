@@ -2,17 +2,20 @@
 ghost use Rattle.std.specs.Prelude.{◌≡◌, ◌++◌, Some, None, IfOk, OnOk, MatchBool, reverse};
 ghost use Rattle.module_grammar.specs.Engine.{step, close};
 ghost use Rattle.module_grammar.specs.Rules.{grammar};
-ghost use Rattle.module_grammar.specs.Choices.{line_of};
+ghost use Rattle.module_grammar.specs.Choices.{form_of, line_of};
 ghost use Rattle.module_grammar.specs.State.{at_start, module_of};
-ghost use Rattle.module_grammar.specs.Faults.{settled};
+ghost use Rattle.module_grammar.specs.Faults.{settled, refusal, limit_passed};
 ghost use Rattle.module_grammar.specs.Machines.{place_of, IsStart, IsClosed};
 ghost use Rattle.op_table.specs.declared.rows.Level.TheVariants.{Source};
 
-use crate::choose::may_end;
-use crate::lines::Choice;
+use crate::bytes::Bytes;
+use crate::choose::{Choice, may_end};
+use crate::faults::{GrammarFault, TextLimits};
+use crate::forms::form;
+use crate::refusal::Spot;
 use crate::state::{Entry, OpenBody, OpenFunc, OpenOp, State, Tok};
-use crate::symbols::{Class, Rule, Symbol};
-use ir_forms::{Level, Module};
+use crate::symbols::{Act, Class, Rule, Symbol};
+use ir_forms::{Level, Module, OpKind};
 use lists::Items;
 use mlir_lex::TokenKind;
 use name_lists::NameList;
@@ -21,9 +24,9 @@ use std::mem;
 
 /// What is left of the symbols, the first last, and the state.
 #[derive(Drop)]
-pub struct Machine {
+pub struct Machine<'a> {
     pub stack: Items<Symbol>,
-    pub state: State,
+    pub state: State<'a>,
 }
 
 /// Puts symbols on a stack, the first on top.
@@ -39,32 +42,46 @@ fn push_all(stack: &mut Items<Symbol>, symbols: &[Symbol]) -> Result<(), AllocEr
     Ok(())
 }
 
+/// Puts the symbols of an operation's kind and form on a stack.
+#[tactic(auto, using(crate::proofs::Stacks::reverse_pushed))]
+fn push_form(stack: &mut Items<Symbol>, kind: Option<OpKind>) -> Result<(), AllocError>
+    ensures { OnOk result (reverse stack.new ≡ form_of kind ++ reverse stack.old) }
+{
+    match kind {
+        Some(kind) => {
+            push_all(stack, form(kind))?;
+            stack.push(Symbol::Do(Act::Kind(kind)))
+        }
+        None => Ok(()),
+    }
+}
+
 /// Puts the symbols of a line on a stack.
 #[tactic(auto, using(crate::proofs::Stacks::three_pushed))]
 fn push_line(stack: &mut Items<Symbol>, choice: Choice) -> Result<(), AllocError>
     ensures { OnOk result (reverse stack.new ≡ (line_of choice).after ++ reverse stack.old) }
 {
     push_all(stack, choice.after)?;
-    push_all(stack, choice.form)?;
+    push_form(stack, choice.kind)?;
     push_all(stack, choice.before)
 }
 
-impl State {
+impl<'a> State<'a> {
     /// The state before the first token.
-    fn start(alloc: Global) -> State
+    fn start(alloc: Global) -> State<'a>
         ensures { result ≡ at_start }
     {
         State {
             last: Tok {
                 kind: TokenKind::End,
-                text: Items::new(alloc),
+                text: Bytes::new(&[]),
                 at: 0,
                 joined: false,
             },
             read: Items::new(alloc),
             visible: NameList::new(alloc),
             next: 0,
-            used: Items::new(alloc),
+            used: Bytes::new(&[]),
             begun: 0,
             functions: 0,
             deepest: 0,
@@ -81,7 +98,7 @@ impl State {
     }
 }
 
-impl Machine {
+impl<'a> Machine<'a> {
     /// What is left of the symbols, the first first.
     #[tactic(auto, using(crate::proofs::Stacks::turned))]
     pub fn left(&self, alloc: Global) -> Result<Items<Symbol>, AllocError>
@@ -93,7 +110,7 @@ impl Machine {
     }
 
     /// The machine before the first token of a text.
-    pub fn start(alloc: Global) -> Result<Machine, AllocError>
+    pub fn start(alloc: Global) -> Result<Machine<'a>, AllocError>
         ensures { IfOk result (λ machine. IsStart machine) }
     {
         let mut stack = Items::new(alloc);
@@ -107,23 +124,23 @@ impl Machine {
 
     /// Takes a token. Where it doesn't fit the machine is no longer of use.
     #[tactic(auto, using(crate::proofs::Stacks::reverse_pushed))]
-    pub fn step(&mut self, alloc: Global, level: Level, token: Tok) -> Result<bool, AllocError>
-        ensures { IfOk result (λ went. MatchBool went (step (grammar level) (reverse self.old.stack) self.old.state token ≡ Some (place_of self.new)) (step (grammar level) (reverse self.old.stack) self.old.state token ≡ None)) }
+    pub fn step(&mut self, alloc: Global, level: Level, token: &Tok<'a>) -> Result<bool, AllocError>
+        ensures { IfOk result (λ went. MatchBool went (step (grammar level) (reverse self.old.stack) self.old.state token.now ≡ Some (place_of self.new)) (step (grammar level) (reverse self.old.stack) self.old.state token.now ≡ None)) }
     {
         while let Some(symbol) = self.stack.pop() {
             match symbol {
                 Symbol::Do(act) => self.state.act(alloc, act)?,
                 Symbol::Word(class) => {
-                    if !self.state.accepts(alloc, class, &token)? {
+                    if !self.state.accepts(alloc, class, token)? {
                         return Ok(false);
                     }
-                    self.state.last = token;
+                    self.state.last = token.copy();
                     return Ok(true);
                 }
                 Symbol::Rule(rule) => {
-                    if let Some(choice) = self.state.line_at(alloc, level, rule, &token)? {
+                    if let Some(choice) = self.state.line_at(alloc, level, rule, token)? {
                         push_line(&mut self.stack, choice)?;
-                        self.state.last = token;
+                        self.state.last = token.copy();
                         return Ok(true);
                     }
                     if !may_end(rule) {
@@ -170,6 +187,35 @@ impl Machine {
             }
         }
         Ok(true)
+    }
+
+    /// The fault of a token that doesn't fit, before the rest.
+    pub(crate) fn refusal(
+        &self,
+        alloc: Global,
+        level: Level,
+        limits: &TextLimits,
+        token: &Tok<'a>,
+        rest: &[Tok<'a>],
+    ) -> Result<GrammarFault, AllocError>
+        ensures { IfOk result (λ fault. fault ≡ refusal limits.now level (reverse self.now.stack) self.now.state token.now rest.now) }
+    {
+        let left = self.left(alloc)?;
+        let spot = Spot {
+            level,
+            left: left.as_slice(),
+            state: &self.state,
+            token,
+            rest,
+        };
+        spot.refusal(alloc, limits)
+    }
+
+    /// The limit that the last token passes, which leads from this state to the other.
+    pub(crate) fn last_limit(&self, limits: &TextLimits, now: &State) -> Option<GrammarFault>
+        ensures { result ≡ limit_passed limits.now self.now.state now.now self.now.state.last }
+    {
+        limits.passed(&self.state, now, &self.state.last)
     }
 
     /// The functions that were read.

@@ -11,7 +11,7 @@ use lists::Items;
 use name_lists::NameList;
 use std::alloc::{AllocError, Global};
 
-impl Name {
+impl<'a> Name<'a> {
     /// The value of the name without `#`.
     fn first_value(&self) -> ValueNo
         ensures { result ≡ first_of self.now self.now.count }
@@ -42,7 +42,7 @@ impl Name {
 
 /// The first of the names that is this one.
 #[tactic(auto, using(crate::proofs::Named::found_at, crate::proofs::Named::found_none))]
-fn found<'a>(names: &'a NameList<Name>, text: &[u8]) -> Option<&'a Name>
+fn found<'n, 'a>(names: &'n NameList<Name<'a>>, text: &[u8]) -> Option<&'n Name<'a>>
     ensures { option_copied result ≡ find (λ n. bytes_eq n.text text.now) names.now }
 {
     match names.first(text) {
@@ -51,7 +51,7 @@ fn found<'a>(names: &'a NameList<Name>, text: &[u8]) -> Option<&'a Name>
     }
 }
 
-fn name_at(names: &[Name], place: usize) -> Option<&Name>
+fn name_at<'n, 'a>(names: &'n [Name<'a>], place: usize) -> Option<&'n Name<'a>>
     ensures { option_copied result ≡ slice_get names.now place }
 {
     names.get(place)

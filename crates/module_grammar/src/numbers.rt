@@ -42,7 +42,7 @@ fn number_in(base: u64, digits: &[u8]) -> Option<u64>
     Some(number)
 }
 
-impl Tok {
+impl<'a> Tok<'a> {
     /// The number that digits or hexadecimal digits write, where it is below 2^64.
     #[tactic(auto, unfolding(crate::specs::Tokens::number_of))]
     pub fn number(&self) -> Option<u64>

@@ -4,10 +4,11 @@ ghost use Rattle.module_grammar.specs.State.{does, typed_by, is_untyped};
 ghost use Rattle.module_grammar.specs.declared.symbols.Act.TheVariants as act;
 
 use crate::copies::copy_type;
-use crate::state::{Param, State};
+use crate::state::{OpenOp, Param, State};
 use ir_forms::Ty;
 use name_lists::NameList;
 use std::alloc::{AllocError, Global};
+use std::mem;
 
 fn is_untyped(ty: &Ty) -> bool
     ensures { result ≡ is_untyped ty.now }
@@ -16,13 +17,17 @@ fn is_untyped(ty: &Ty) -> bool
 }
 
 /// The parameters, of which those without a type get these types, in order.
-fn typed_by(alloc: Global, params: &[Param], types: &[Ty]) -> Result<NameList<Param>, AllocError>
+fn typed_by<'a>(
+    alloc: Global,
+    params: &[Param<'a>],
+    types: &[Ty],
+) -> Result<NameList<Param<'a>>, AllocError>
     ensures { IfOk result (λ typed. typed ≡ typed_by params.now types.now) }
 {
     let mut typed = NameList::new(alloc);
     let mut at = 0;
     for param in params {
-        let name = param.name.copy(alloc)?;
+        let name = param.name.copy();
         if is_untyped(&param.ty) && at < types.len() {
             let ty = copy_type(alloc, &types[at])?;
             typed.push(alloc, Param { name, ty })?;
@@ -35,19 +40,35 @@ fn typed_by(alloc: Global, params: &[Param], types: &[Ty]) -> Result<NameList<Pa
     Ok(typed)
 }
 
+/// The parameters of the operation, of which those without a type get those of the results.
+fn typed_by_results<'a>(alloc: Global, op: &OpenOp<'a>) -> Result<NameList<Param<'a>>, AllocError>
+    ensures { IfOk result (λ typed. typed ≡ typed_by op.now.params op.now.types) }
+{
+    typed_by(alloc, op.params.as_slice(), op.types.as_slice())
+}
+
+/// The same, with the types that the form writes for the operands.
+fn typed_by_written<'a>(alloc: Global, op: &OpenOp<'a>) -> Result<NameList<Param<'a>>, AllocError>
+    ensures { IfOk result (λ typed. typed ≡ typed_by op.now.params op.now.written) }
+{
+    typed_by(alloc, op.params.as_slice(), op.written.as_slice())
+}
+
 #[tactic(auto, unfolding(crate::specs::State::does))]
-impl State {
+impl<'a> State<'a> {
     pub(crate) fn result_params(&mut self, alloc: Global) -> Result<(), AllocError>
         ensures { OnOk result (self.new ≡ does act.ResultParams self.old) }
     {
-        self.op.params = typed_by(alloc, self.op.params.as_slice(), self.op.types.as_slice())?;
+        let typed = typed_by_results(alloc, &self.op)?;
+        let _untyped = mem::replace(&mut self.op.params, typed);
         Ok(())
     }
 
     pub(crate) fn written_params(&mut self, alloc: Global) -> Result<(), AllocError>
         ensures { OnOk result (self.new ≡ does act.WrittenParams self.old) }
     {
-        self.op.params = typed_by(alloc, self.op.params.as_slice(), self.op.written.as_slice())?;
+        let typed = typed_by_written(alloc, &self.op)?;
+        let _untyped = mem::replace(&mut self.op.params, typed);
         Ok(())
     }
 }

@@ -1,7 +1,7 @@
 //! The fault of a token that doesn't fit.
 ghost use Rattle.std.specs.Prelude.{◌≡◌, IfOk};
 ghost use Rattle.module_grammar.specs.Rules.{is_name, is_value_name};
-ghost use Rattle.module_grammar.specs.Faults.{fits_first, has_row, begins_type, names_open, results_open, counts_values, wide_fault, entry_fault, counts_held, second_fault, is_unknown_op, is_unknown_type, is_wide_number, is_second_name, token_fault, held_fault, open_name_past, refusal};
+ghost use Rattle.module_grammar.specs.Faults.{fits_first, has_row, begins_type, names_open, results_open, counts_values, wide_fault, entry_fault, counts_held, values_before, second_fault, is_unknown_op, is_unknown_type, is_wide_number, is_second_name, token_fault, held_fault, open_name_past, fault_there, holds_operands, held_past, refusal};
 
 use crate::choose::may_end;
 use crate::classes::{is_byte, is_of};
@@ -13,8 +13,8 @@ use crate::places::{last_place, name_past, place_in};
 use crate::sought::Sought;
 use crate::state::{Entry, Name, State, Tok};
 use crate::symbols::{Act, Class, Rule, Symbol};
-use crate::words::kind_among;
-use ir_forms::{Level, OpKind};
+use crate::words::kind_of;
+use ir_forms::Level;
 use mlir_lex::TokenKind;
 use std::alloc::{AllocError, Global};
 
@@ -22,7 +22,7 @@ use std::alloc::{AllocError, Global};
 fn has_row(level: Level, text: &[u8]) -> bool
     ensures { result ≡ has_row level text.now }
 {
-    match kind_among(OpKind::all(), text) {
+    match kind_of(text) {
         Some(kind) => kind.stands_at(level),
         None => false,
     }
@@ -60,6 +60,17 @@ fn counts_values(left: &[Symbol]) -> bool
     !left.is_empty() && matches!(left[0], Symbol::Word(Class::Number)) && names_open(&left[1..])
 }
 
+/// How many values a name has that begins an operation, where these tokens follow it.
+fn values_before(rest: &[Tok]) -> u64
+    ensures { result ≡ values_before rest.now }
+{
+    if rest.len() >= 2 && is_byte(58, rest[0].kind) && is_number(rest[1].kind) {
+        rest[1].number().unwrap_or(4_294_967_296)
+    } else {
+        1
+    }
+}
+
 impl Entry {
     /// The fault of the number of a whole entry that isn't below 2^32.
     fn wide_fault(self) -> Option<GrammarFault>
@@ -76,16 +87,17 @@ impl Entry {
     }
 }
 
-/// A token, and the symbols, with the first first, and the state before it.
+/// A token, the symbols, with the first first, and the state before it, and the tokens behind it.
 #[derive(Clone, Copy)]
-pub(crate) struct Spot<'a> {
+pub(crate) struct Spot<'s, 'a> {
     pub(crate) level: Level,
-    pub(crate) left: &'a [Symbol],
-    pub(crate) state: &'a State,
-    pub(crate) token: &'a Tok,
+    pub(crate) left: &'s [Symbol],
+    pub(crate) state: &'s State<'a>,
+    pub(crate) token: &'s Tok<'a>,
+    pub(crate) rest: &'s [Tok<'a>],
 }
 
-impl<'a> Spot<'a> {
+impl<'s, 'a> Spot<'s, 'a> {
     /// Whether a word that is sought fits.
     fn fits(&self, sought: Sought) -> bool
         ensures { result ≡ fits_first self.now.level sought self.now.left.now }
@@ -108,13 +120,14 @@ impl<'a> Spot<'a> {
     }
 
     /// The names of an operation's results whose `=` isn't read yet.
-    fn results_open(&self) -> &'a [Name]
+    fn results_open(&self) -> &'s [Name<'a>]
         ensures { result.now ≡ results_open self.now.left.now self.now.state.now }
     {
+        let names = self.state.op.results.as_slice();
         if names_open(self.left) {
-            self.state.op.results.as_slice()
+            names
         } else {
-            &[]
+            &names[..0]
         }
     }
 
@@ -123,7 +136,7 @@ impl<'a> Spot<'a> {
         ensures { result ≡ entry_fault self.now.level self.now.left.now self.now.state.now self.now.token.now }
     {
         let kind = self.token.kind;
-        if self.fits(Sought::EntryEnd) && (is_byte(44, kind) || is_byte(125, kind)) {
+        if self.fits(Sought::EntryEnd) && (is_byte(b',', kind) || is_byte(b'}', kind)) {
             self.state.entry.wide_fault()
         } else {
             None
@@ -142,16 +155,18 @@ impl<'a> Spot<'a> {
 
     /// The fault of a name that is visible already, where only a new one fits.
     fn second_fault(&self, limits: &TextLimits) -> GrammarFault
-        ensures { result ≡ second_fault limits.now self.now.level self.now.left.now self.now.state.now self.now.token.now }
+        ensures { result ≡ second_fault limits.now self.now.level self.now.left.now self.now.state.now self.now.token.now self.now.rest.now }
     {
         let at = self.token.at;
-        if self.fits(Sought::Op) && self.state.begun >= u64::from(limits.operations) {
+        let begins = self.fits(Sought::Op);
+        if begins && self.state.begun >= u64::from(limits.operations) {
             return GrammarFault::Limit {
                 which: Limited::Operations,
                 at,
             };
         }
-        let counted = up(with_names(self.state.counted, self.results_open()), 1);
+        let values = if begins { values_before(self.rest) } else { 1 };
+        let counted = up(with_names(self.state.counted, self.results_open()), values);
         if counted > u64::from(limits.values) {
             return GrammarFault::Limit {
                 which: Limited::Values,
@@ -195,7 +210,7 @@ impl<'a> Spot<'a> {
 
     /// The fault of the token, where no name before it passes a limit.
     fn token_fault(&self, alloc: Global, limits: &TextLimits) -> Result<GrammarFault, AllocError>
-        ensures { IfOk result (λ fault. fault ≡ token_fault limits.now self.now.level self.now.left.now self.now.state.now self.now.token.now) }
+        ensures { IfOk result (λ fault. fault ≡ token_fault limits.now self.now.level self.now.left.now self.now.state.now self.now.token.now self.now.rest.now) }
     {
         let at = self.token.at;
         if self.is_unknown_op() {
@@ -240,13 +255,9 @@ impl<'a> Spot<'a> {
         }
     }
 
-    /// The fault of the token, which doesn't fit.
-    pub(crate) fn refusal(
-        &self,
-        alloc: Global,
-        limits: &TextLimits,
-    ) -> Result<GrammarFault, AllocError>
-        ensures { IfOk result (λ fault. fault ≡ refusal limits.now self.now.level self.now.left.now self.now.state.now self.now.token.now) }
+    /// The fault of the token, which doesn't fit, where the names held are within the limit as far as they can only be operands.
+    fn fault_there(&self, alloc: Global, limits: &TextLimits) -> Result<GrammarFault, AllocError>
+        ensures { IfOk result (λ fault. fault ≡ fault_there limits.now self.now.level self.now.left.now self.now.state.now self.now.token.now self.now.rest.now) }
     {
         if self.counts_held() {
             return Ok(self.held_fault(limits));
@@ -261,5 +272,55 @@ impl<'a> Spot<'a> {
             Some(fault) => Ok(fault),
             None => self.token_fault(alloc, limits),
         }
+    }
+    /// Whether the names held can only be operands.
+    fn holds_operands(&self) -> bool
+        ensures { result ≡ holds_operands self.now.left.now self.now.state.now }
+    {
+        if self.left.is_empty() {
+            return false;
+        }
+        match self.left[0] {
+            Symbol::Rule(Rule::AfterHeld) => !self.state.holds_new(),
+            Symbol::Rule(Rule::AfterHeldColon) => {
+                !(self.state.held.len() == 1 && self.state.holds_new())
+            }
+            Symbol::Word(Class::Use) => {
+                self.left.len() >= 2
+                    && matches!(self.left[1], Symbol::Do(Act::Hold))
+                    && !self.state.holds_new()
+            }
+            _ => false,
+        }
+    }
+
+    /// The place of the name held that passes the limit, where they can only be operands.
+    fn held_past(&self, limits: &TextLimits) -> Option<u32>
+        ensures { result ≡ held_past limits.now self.now.left.now self.now.state.now }
+    {
+        let held = self.state.held.as_slice();
+        let room = u64::from(limits.values).saturating_sub(self.state.counted);
+        if self.holds_operands() && held.len() as u64 > room {
+            Some(place_in(held, room, 0))
+        } else {
+            None
+        }
+    }
+
+    /// The fault of the token, which doesn't fit.
+    pub(crate) fn refusal(
+        &self,
+        alloc: Global,
+        limits: &TextLimits,
+    ) -> Result<GrammarFault, AllocError>
+        ensures { IfOk result (λ fault. fault ≡ refusal limits.now self.now.level self.now.left.now self.now.state.now self.now.token.now self.now.rest.now) }
+    {
+        if let Some(at) = self.held_past(limits) {
+            return Ok(GrammarFault::Limit {
+                which: Limited::Values,
+                at,
+            });
+        }
+        self.fault_there(alloc, limits)
     }
 }

@@ -1,10 +1,12 @@
 //! What opens and closes functions and regions.
 ghost use Rattle.std.specs.Prelude.{◌≡◌, ◌∷◌, ◌++◌, [], map, IfOk, OnOk};
 ghost use Rattle.module_grammar.specs.State.{does, region_of, made, body_ops, left_out, with_made, begun_with, param_names, param_value, last_as_reduce, as_reduce, is_yield, is_ending, ends_in, terminator_of, close_into};
+ghost use Rattle.module_grammar.specs.Steps.{func_of, gone_out, region_joined, ops_ended, terminator_counted};
 ghost use Rattle.module_grammar.specs.declared.symbols.Act.TheVariants as act;
 
 use crate::copies::copy_type;
 use crate::counting::{as_number, up};
+use crate::room::add;
 use crate::state::{Name, OpenBody, OpenFunc, OpenOp, Outer, Param, State};
 use ir_forms::{Attr, Func, Op, OpKind, Region, Ty, ValueNo};
 use lists::Items;
@@ -13,11 +15,15 @@ use std::alloc::{AllocError, Global};
 use std::mem;
 
 /// Adds copies of the parameters' names to the names.
-fn add_names(alloc: Global, names: &mut NameList<Name>, params: &[Param]) -> Result<(), AllocError>
+fn add_names<'a>(
+    alloc: Global,
+    names: &mut NameList<Name<'a>>,
+    params: &[Param<'a>],
+) -> Result<(), AllocError>
     ensures { OnOk result (names.new ≡ names.old ++ param_names params.now) }
 {
     for param in params {
-        names.push(alloc, param.name.copy(alloc)?)?;
+        names.push(alloc, param.name.copy())?;
     }
     Ok(())
 }
@@ -102,16 +108,16 @@ fn left_out(kind: OpKind, types: &Items<Ty>, ops: &Items<Op>) -> Option<OpKind>
 
 /// In a parallel body a last yield without operands is a reduce.
 #[tactic(auto, using(crate::proofs::Lists::last_reduced))]
-fn body_ops(kind: OpKind, ops: Items<Op>) -> Result<Items<Op>, AllocError>
-    ensures { IfOk result (λ all. all ≡ body_ops kind ops) }
+fn reduce_last(kind: OpKind, ops: &mut Items<Op>) -> Result<(), AllocError>
+    ensures { OnOk result (ops.new ≡ body_ops kind ops.old) }
 {
-    let mut ops = ops;
-    if matches!(kind, OpKind::ScfParallel) {
-        if let Some(last) = ops.pop() {
-            ops.push(as_reduce(last))?;
-        }
+    match kind {
+        OpKind::ScfParallel => match ops.pop() {
+            Some(last) => ops.push(as_reduce(last)),
+            None => Ok(()),
+        },
+        _ => Ok(()),
     }
-    Ok(ops)
 }
 
 fn as_reduce(op: Op) -> Op
@@ -127,15 +133,32 @@ fn as_reduce(op: Op) -> Op
     }
 }
 
+/// The function that is over, with these parameters and this body.
+fn func_of(alloc: Global, over: OpenFunc, params: Items<(ValueNo, Ty)>, ops: Items<Op>) -> Func
+    ensures { result ≡ func_of over.entry params ops }
+{
+    Func {
+        name: over.name,
+        params,
+        results: over.results,
+        body: Region {
+            params: Items::new(alloc),
+            ops,
+        },
+        at: over.at,
+    }
+}
+
 #[tactic(auto, unfolding(crate::specs::State::does))]
-impl State {
+impl<'a> State<'a> {
     pub(crate) fn open_body(&mut self, alloc: Global) -> Result<(), AllocError>
         ensures { OnOk result (self.new ≡ does act.OpenBody self.old) }
     {
-        let open = mem::replace(&mut self.op, OpenOp::blank(alloc, 0));
-        self.visible = NameList::new(alloc);
-        add_names(alloc, &mut self.visible, open.params.as_slice())?;
-        self.func.params = open.params.into_items();
+        let _names = mem::replace(&mut self.visible, NameList::new(alloc));
+        add_names(alloc, &mut self.visible, self.op.params.as_slice())?;
+        let params = mem::replace(&mut self.op.params, NameList::new(alloc)).into_items();
+        let _params = mem::replace(&mut self.func.params, params);
+        self.op = OpenOp::blank(alloc, 0);
         self.body = OpenBody::blank(alloc);
         self.deepest = self.deepest.max(1);
         Ok(())
@@ -145,9 +168,9 @@ impl State {
         ensures { OnOk result (self.new ≡ does act.OpenRegion self.old) }
     {
         self.deepest = self.deepest.max(up(self.outer.len() as u64, 2));
-        let params = mem::replace(&mut self.op.params, NameList::new(alloc)).into_items();
         let outside = self.visible.len();
-        add_names(alloc, &mut self.visible, params.as_slice())?;
+        add_names(alloc, &mut self.visible, self.op.params.as_slice())?;
+        let params = mem::replace(&mut self.op.params, NameList::new(alloc)).into_items();
         let op = mem::replace(&mut self.op, OpenOp::blank(alloc, 0));
         let inner = OpenBody {
             params,
@@ -163,36 +186,57 @@ impl State {
     pub(crate) fn close_region(&mut self, alloc: Global) -> Result<(), AllocError>
         ensures { OnOk result (self.new ≡ does act.CloseRegion self.old) }
     {
-        let Some(outer) = self.outer.pop() else {
-            return Ok(());
-        };
-        let body = mem::replace(&mut self.body, outer.body);
-        let mut ops = body_ops(outer.op.kind, body.ops)?;
-        if let Some(kind) = left_out(outer.op.kind, &outer.op.types, &ops) {
-            self.begun = up(self.begun, 1);
-            ops.push(made(alloc, kind, as_number(self.begun)))?;
+        match self.outer.pop() {
+            Some(outer) => {
+                let mut body = self.go_out(outer);
+                self.join_region(alloc, &mut body)
+            }
+            None => Ok(()),
         }
+    }
+
+    /// Goes back to the operation in which the region stands, and answers the region's body.
+    fn go_out(&mut self, outer: Outer<'a>) -> OpenBody<'a>
+        ensures body { result ≡ self.old.body }
+        ensures state { self.new ≡ gone_out outer.entry self.old }
+    {
+        let Outer { op, body } = outer;
+        self.op = op;
+        self.visible.truncate(self.body.outside);
+        mem::replace(&mut self.body, body)
+    }
+
+    /// The body joins the operation, as its next region. Then it is no longer of use.
+    fn join_region(&mut self, alloc: Global, body: &mut OpenBody<'a>) -> Result<(), AllocError>
+        ensures { OnOk result (self.new ≡ region_joined body.old self.old) }
+    {
+        self.end_ops(alloc, &mut body.ops)?;
         let params = param_values(alloc, body.params.as_slice())?;
-        self.visible.truncate(body.outside);
-        self.op = outer.op;
-        self.op.regions.push(Region { params, ops })
+        let ops = mem::replace(&mut body.ops, Items::new(alloc));
+        add(alloc, &mut self.op.regions, Region { params, ops })
+    }
+
+    /// Makes the terminator that a body leaves out.
+    fn end_ops(&mut self, alloc: Global, ops: &mut Items<Op>) -> Result<(), AllocError>
+        ensures ops { OnOk result (ops.new ≡ ops_ended self.old ops.old) }
+        ensures state { OnOk result (self.new ≡ terminator_counted ops.old self.old) }
+    {
+        reduce_last(self.op.kind, ops)?;
+        match left_out(self.op.kind, &self.op.types, ops) {
+            Some(kind) => {
+                self.begun = up(self.begun, 1);
+                ops.push(made(alloc, kind, as_number(self.begun)))
+            }
+            None => Ok(()),
+        }
     }
 
     pub(crate) fn end_func(&mut self, alloc: Global) -> Result<(), AllocError>
         ensures { OnOk result (self.new ≡ does act.EndFunc self.old) }
     {
+        let params = param_values(alloc, self.func.params.as_slice())?;
         let func = mem::replace(&mut self.func, OpenFunc::blank(alloc, 0));
-        let body = mem::replace(&mut self.body, OpenBody::blank(alloc));
-        let params = param_values(alloc, func.params.as_slice())?;
-        self.funcs.push(Func {
-            name: func.name,
-            params,
-            results: func.results,
-            body: Region {
-                params: Items::new(alloc),
-                ops: body.ops,
-            },
-            at: func.at,
-        })
+        let ops = mem::replace(&mut self.body, OpenBody::blank(alloc)).ops;
+        self.funcs.push(func_of(alloc, func, params, ops))
     }
 }

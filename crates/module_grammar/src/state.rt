@@ -1,4 +1,5 @@
 //! What is built while a text is read: the functions so far, what is open, and the names that are visible.
+use crate::bytes::Bytes;
 use ir_forms::{Attr, Func, Op, OpKind, Region, Ty, ValueNo};
 use lists::Items;
 use mlir_lex::TokenKind;
@@ -6,14 +7,14 @@ use name_lists::{HasName, NameList};
 
 /// A token: its kind, its bytes, the place of the first of them, and whether it follows the token before at once.
 #[derive(Drop)]
-pub struct Tok {
+pub struct Tok<'a> {
     pub kind: TokenKind,
-    pub text: Items<u8>,
+    pub text: Bytes<'a>,
     pub at: u32,
     pub joined: bool,
 }
 
-impl HasName for Tok {
+impl<'a> HasName for Tok<'a> {
     ghost text = { λ t. t.text };
 
     fn name(&self) -> &[u8] {
@@ -25,14 +26,14 @@ impl HasName for Tok {
 ///
 /// `%a:n` names n values, of which `%a#k` is number k and `%a` number 0. Any other name has one value and no `#k`.
 #[derive(Drop)]
-pub struct Name {
-    pub text: Items<u8>,
+pub struct Name<'a> {
+    pub text: Bytes<'a>,
     pub at: u32,
     pub first: u32,
     pub count: Option<u64>,
 }
 
-impl HasName for Name {
+impl<'a> HasName for Name<'a> {
     ghost text = { λ n. n.text };
 
     fn name(&self) -> &[u8] {
@@ -40,13 +41,14 @@ impl HasName for Name {
     }
 }
 
+/// A parameter and its type.
 #[derive(Drop)]
-pub struct Param {
-    pub name: Name,
+pub struct Param<'a> {
+    pub name: Name<'a>,
     pub ty: Ty,
 }
 
-impl HasName for Param {
+impl<'a> HasName for Param<'a> {
     ghost text = { λ p. p.name.text };
 
     fn name(&self) -> &[u8] {
@@ -56,38 +58,39 @@ impl HasName for Param {
 
 /// An operation whose end isn't read yet. `params` are those of its next region.
 #[derive(Drop)]
-pub struct OpenOp {
+pub struct OpenOp<'a> {
     pub kind: OpKind,
     pub at: u32,
     pub operands: Items<ValueNo>,
     pub groups: Items<u32>,
     pub written: Items<Ty>,
-    pub results: NameList<Name>,
+    pub results: NameList<Name<'a>>,
     pub types: Items<Ty>,
     pub attr: Attr,
     pub regions: Items<Region>,
-    pub params: NameList<Param>,
+    pub params: NameList<Param<'a>>,
 }
 
 /// A body whose end isn't read yet, and how many names are visible outside of it.
 #[derive(Drop)]
-pub struct OpenBody {
-    pub params: Items<Param>,
+pub struct OpenBody<'a> {
+    pub params: Items<Param<'a>>,
     pub ops: Items<Op>,
     pub outside: usize,
 }
 
 /// An operation in whose region the text stands, and the body that it stands in.
 #[derive(Drop)]
-pub struct Outer {
-    pub op: OpenOp,
-    pub body: OpenBody,
+pub struct Outer<'a> {
+    pub op: OpenOp<'a>,
+    pub body: OpenBody<'a>,
 }
 
+/// A function whose end isn't read yet.
 #[derive(Drop)]
-pub struct OpenFunc {
+pub struct OpenFunc<'a> {
     pub name: Items<u8>,
-    pub params: Items<Param>,
+    pub params: Items<Param<'a>>,
     pub results: Items<Ty>,
     pub at: u32,
 }
@@ -104,31 +107,41 @@ pub enum Entry {
     Other,
 }
 
-/// The state of a reader.
+/// The state of a reader. What is counted is that of the whole text, and not past 2^32.
 #[derive(Drop)]
-pub struct State {
-    /// The last token, and the types read since the last act that took them.
-    pub last: Tok,
+pub struct State<'a> {
+    /// The last token.
+    pub last: Tok<'a>,
+    /// The types read since the last act that took them.
     pub read: Items<Ty>,
-    /// The names that are visible, the newest last; the number of the next value; the name used last.
-    pub visible: NameList<Name>,
+    /// The names that are visible, the newest last.
+    pub visible: NameList<Name<'a>>,
+    /// The number of the next value.
     pub next: u32,
-    pub used: Items<u8>,
-    /// In the whole text: operations and functions begun, the depth of the deepest region, and values' names at definitions
-    /// and uses. None of them is counted past 2^32.
+    /// The name used last.
+    pub used: Bytes<'a>,
+    /// How many operations are begun.
     pub begun: u64,
+    /// How many functions are begun.
     pub functions: u64,
+    /// The depth of the deepest region.
     pub deepest: u64,
+    /// How often values' names stand at definitions and uses.
     pub counted: u64,
-    pub op: OpenOp,
-    pub body: OpenBody,
+    /// The operation that is read.
+    pub op: OpenOp<'a>,
+    /// The body that the operation stands in.
+    pub body: OpenBody<'a>,
     /// The operations in whose regions the text stands, the innermost last.
-    pub outer: Items<Outer>,
+    pub outer: Items<Outer<'a>>,
     /// Names that may be operands or the next operation's results.
-    pub held: NameList<Tok>,
-    /// The entry of a dictionary, and the number of the last whole one.
+    pub held: NameList<Tok<'a>>,
+    /// How far the entry of a dictionary is read.
     pub entry: Entry,
+    /// The number of the last whole entry of a dictionary.
     pub entry_at: Option<u64>,
-    pub func: OpenFunc,
+    /// The function that is read.
+    pub func: OpenFunc<'a>,
+    /// The functions that are read.
     pub funcs: Items<Func>,
 }

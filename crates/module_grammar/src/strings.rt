@@ -63,7 +63,7 @@ fn said(alloc: Global, text: &[u8]) -> Result<Items<u8>, AllocError>
     Ok(bytes)
 }
 
-impl Tok {
+impl<'a> Tok<'a> {
     /// What a string says.
     pub fn string(&self, alloc: Global) -> Result<Items<u8>, AllocError>
         ensures { IfOk result (λ bytes. bytes ≡ string_of self.now.text) }

@@ -2,7 +2,7 @@
 use ir_forms::OpKind;
 
 /// A word that texts write beside the names of operations.
-#[derive(Clone, Copy, PartialEq, Eq, Debug)]
+#[derive(Clone, Copy)]
 pub enum Keyword {
     As,
     Attributes,
@@ -21,7 +21,7 @@ pub enum Keyword {
 }
 
 /// A class of tokens.
-#[derive(Clone, Copy, PartialEq, Eq, Debug)]
+#[derive(Clone, Copy)]
 pub enum Class {
     /// One of the single bytes.
     Byte(u8),
@@ -72,7 +72,7 @@ pub enum Class {
 }
 
 /// A rule of the grammar.
-#[derive(Clone, Copy, PartialEq, Eq, Debug)]
+#[derive(Clone, Copy)]
 pub enum Rule {
     Text,
     ModuleName,
@@ -120,7 +120,7 @@ pub enum Rule {
 }
 
 /// What is done where no token is read. `specs/State.antt` says what each makes of the state.
-#[derive(Clone, Copy, PartialEq, Eq, Debug)]
+#[derive(Clone, Copy)]
 pub enum Act {
     BeginFunc,
     FuncName,
@@ -129,7 +129,8 @@ pub enum Act {
     OpenBody,
     EndFunc,
     BeginOp,
-    Kind,
+    /// The operation is of this kind.
+    Kind(OpKind),
     EndOp,
     OpAt,
     OpenRegion,
@@ -175,7 +176,7 @@ pub enum Act {
 }
 
 /// What a line of a rule is made of.
-#[derive(Clone, Copy, PartialEq, Eq, Debug)]
+#[derive(Clone, Copy)]
 pub enum Symbol {
     Word(Class),
     Rule(Rule),

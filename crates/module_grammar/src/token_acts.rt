@@ -1,13 +1,14 @@
 //! What the acts make of the last token.
 ghost use Rattle.std.specs.Prelude.{◌≡◌, ◌∷◌, [], drop, unwrap_or, IfOk, OnOk};
-ghost use Rattle.module_grammar.specs.State.{does, add_operands, add_results, last_typed, typed_by, first_type, payload_types, element_type, cell_type, held_type, number_payload, value_type, entry_after, index_of, with_attr, literal};
+ghost use Rattle.module_grammar.specs.State.{does, begin_op, end_op, add_operands, add_results, last_typed, typed_by, first_type, payload_types, element_type, cell_type, held_type, number_payload, value_type, entry_after, index_of, with_attr, literal};
+ghost use Rattle.module_grammar.specs.Steps.{option_list};
 ghost use Rattle.module_grammar.specs.declared.symbols.Act.TheVariants as act;
 
-use crate::copies::copy_type;
+use crate::copies::{copy_payload, copy_type};
 use crate::counting::number_up;
 use crate::names::resolve_at;
+use crate::room::add;
 use crate::state::{Entry, Name, Param, State, Tok};
-use crate::words::kind_named;
 use ir_forms::{Attr, CellTy, NumTy, Pred, Ty, ValTy, Width};
 use lists::Items;
 use mlir_lex::TokenKind;
@@ -16,10 +17,10 @@ use std::alloc::{AllocError, Global};
 use std::mem;
 
 /// The first type, or none.
-fn first_type(alloc: Global, types: &Items<Ty>) -> Result<Ty, AllocError>
+fn first_type(alloc: Global, types: &[Ty]) -> Result<Ty, AllocError>
     ensures { IfOk result (λ ty. ty ≡ first_type types.now) }
 {
-    match types.get(0) {
+    match types.first() {
         Some(ty) => copy_type(alloc, ty),
         None => Ok(Ty::Untyped),
     }
@@ -66,15 +67,27 @@ fn held_type(payload: ValTy) -> Ty
     }
 }
 
-/// What awaiting this type gives, if it gives anything.
-fn payload_types(alloc: Global, ty: Ty) -> Result<Items<Ty>, AllocError>
-    ensures { IfOk result (λ types. types ≡ payload_types ty) }
+/// What awaiting the first of these types gives, if it gives anything.
+fn first_payload(alloc: Global, types: &[Ty]) -> Result<Option<Ty>, AllocError>
+    ensures { IfOk result (λ ty. option_list ty ≡ payload_types (first_type types.now)) }
 {
-    let mut types = Items::new(alloc);
-    if let Ty::Value(payload) = ty {
-        types.push(held_type(payload))?;
+    match types.first() {
+        Some(Ty::Value(payload)) => {
+            let payload = copy_payload(alloc, payload)?;
+            Ok(Some(held_type(payload)))
+        }
+        _ => Ok(None),
     }
-    Ok(types)
+}
+
+/// The type of the cells of the first of these types, which is a memref.
+fn first_element(types: &[Ty]) -> Ty
+    ensures { result ≡ element_type (first_type types.now) }
+{
+    match types.first() {
+        Some(ty) => element_type(ty),
+        None => Ty::Untyped,
+    }
 }
 
 impl Entry {
@@ -102,11 +115,34 @@ impl Entry {
 }
 
 #[tactic(auto, unfolding(crate::specs::State::does))]
-impl State {
-    pub(crate) fn kind(&mut self)
-        ensures { self.new ≡ does act.Kind self.old }
+impl<'a> State<'a> {
+    /// The tokens are uses of the next operands.
+    fn add_operands(&mut self, tokens: &[Tok<'a>]) -> Result<(), AllocError>
+        ensures { OnOk result (self.new ≡ add_operands tokens.now self.old) }
     {
-        self.op.kind = kind_named(self.last.text.as_slice());
+        for token in tokens {
+            self.add_operand(token)?;
+        }
+        Ok(())
+    }
+
+    /// The tokens name the next results.
+    fn add_results(&mut self, alloc: Global, tokens: &[Tok<'a>]) -> Result<(), AllocError>
+        ensures { OnOk result (self.new ≡ add_results tokens.now self.old) }
+    {
+        for token in tokens {
+            self.add_result(alloc, token)?;
+        }
+        Ok(())
+    }
+
+    /// The operation is over, and the tokens name the results of the next.
+    fn end_with_results(&mut self, alloc: Global, tokens: &[Tok<'a>]) -> Result<(), AllocError>
+        ensures { OnOk result (self.new ≡ add_results tokens.now (begin_op (end_op self.old))) }
+    {
+        self.end_op(alloc)?;
+        self.begin_op(alloc);
+        self.add_results(alloc, tokens)
     }
 
     pub(crate) fn entry(&mut self)
@@ -137,29 +173,21 @@ impl State {
         ensures { OnOk result (self.new ≡ does act.HeldOperands self.old) }
     {
         let held = mem::replace(&mut self.held, NameList::new(alloc));
-        for token in held.as_slice() {
-            self.add_operand(alloc, token)?;
-        }
-        Ok(())
+        self.add_operands(held.as_slice())
     }
 
     pub(crate) fn held_results(&mut self, alloc: Global) -> Result<(), AllocError>
         ensures { OnOk result (self.new ≡ does act.HeldResults self.old) }
     {
         let held = mem::replace(&mut self.held, NameList::new(alloc));
-        self.end_op(alloc)?;
-        self.begin_op(alloc);
-        for token in held.as_slice() {
-            self.add_result(alloc, token)?;
-        }
-        Ok(())
+        self.end_with_results(alloc, held.as_slice())
     }
 
     #[tactic(auto, unfolding(crate::specs::State::does), using(crate::proofs::Lists::last_given))]
     pub(crate) fn param_type(&mut self, alloc: Global) -> Result<(), AllocError>
         ensures { OnOk result (self.new ≡ does act.ParamType self.old) }
     {
-        let ty = first_type(alloc, &self.read)?;
+        let ty = first_type(alloc, self.read.as_slice())?;
         self.read = Items::new(alloc);
         match self.op.params.pop() {
             Some(param) => {
@@ -174,7 +202,7 @@ impl State {
     pub(crate) fn block_param_type(&mut self, alloc: Global) -> Result<(), AllocError>
         ensures { OnOk result (self.new ≡ does act.BlockParamType self.old) }
     {
-        let ty = first_type(alloc, &self.read)?;
+        let ty = first_type(alloc, self.read.as_slice())?;
         self.read = Items::new(alloc);
         match self.body.params.pop() {
             Some(param) => self.body.params.push(Param {
@@ -189,9 +217,7 @@ impl State {
     pub(crate) fn payload_param(&mut self, alloc: Global) -> Result<(), AllocError>
         ensures { OnOk result (self.new ≡ does act.PayloadParam self.old) }
     {
-        let written = first_type(alloc, &self.read)?;
-        let types = payload_types(alloc, written)?;
-        let ty = first_type(alloc, &types)?;
+        let ty = first_payload(alloc, self.read.as_slice())?.unwrap_or(Ty::Untyped);
         match self.op.params.pop() {
             Some(param) => {
                 let name = param.name;
@@ -208,7 +234,7 @@ impl State {
             Some(ty) => ty,
             None => Ty::Untyped,
         };
-        self.read.push(ty)
+        add(alloc, &mut self.read, ty)
     }
 
     pub(crate) fn value_type(&mut self, alloc: Global) -> Result<(), AllocError>
@@ -218,22 +244,26 @@ impl State {
             Some(payload) => Ty::Value(payload),
             None => Ty::Untyped,
         };
-        self.read.push(ty)
+        add(alloc, &mut self.read, ty)
     }
 
     pub(crate) fn element_result(&mut self, alloc: Global) -> Result<(), AllocError>
         ensures { OnOk result (self.new ≡ does act.ElementResult self.old) }
     {
-        let ty = first_type(alloc, &self.read)?;
-        self.op.types.push(element_type(&ty))
+        add(
+            alloc,
+            &mut self.op.types,
+            first_element(self.read.as_slice()),
+        )
     }
 
     pub(crate) fn payload_result(&mut self, alloc: Global) -> Result<(), AllocError>
         ensures { OnOk result (self.new ≡ does act.PayloadResult self.old) }
     {
-        let ty = first_type(alloc, &self.read)?;
-        let types = payload_types(alloc, ty)?;
-        self.op.types.append(types)
+        match first_payload(alloc, self.read.as_slice())? {
+            Some(ty) => add(alloc, &mut self.op.types, ty),
+            None => Ok(()),
+        }
     }
 
     pub(crate) fn literal(&mut self, negative: bool)

@@ -4,6 +4,7 @@ ghost use Rattle.module_grammar.specs.Tokens.{among, widths, cells, bang_types, 
 ghost use Rattle.module_grammar.specs.declared.types.DimSoFar.TheVariants as so_far;
 
 use crate::state::Tok;
+use crate::words::among;
 use ir_forms::{CellTy, Dim, MemTy, NumTy, Ty, ValTy, Width};
 use lists::Items;
 use mlir_lex::TokenKind;
@@ -21,56 +22,41 @@ pub enum DimSoFar {
 fn width_named(text: &[u8]) -> Option<Width>
     ensures { result ≡ among widths text.now }
 {
-    if text == b"i1".as_slice() {
-        Some(Width::W1)
-    } else if text == b"i8".as_slice() {
-        Some(Width::W8)
-    } else if text == b"i16".as_slice() {
-        Some(Width::W16)
-    } else if text == b"i32".as_slice() {
-        Some(Width::W32)
-    } else if text == b"i64".as_slice() {
-        Some(Width::W64)
-    } else {
-        None
-    }
+    among(
+        &[
+            ("i1", Width::W1),
+            ("i8", Width::W8),
+            ("i16", Width::W16),
+            ("i32", Width::W32),
+            ("i64", Width::W64),
+        ],
+        text,
+    )
 }
 
 /// The element type that the end of a memref's body writes.
 fn cell_named(text: &[u8]) -> Option<CellTy>
     ensures { result ≡ among cells text.now }
 {
-    if text == b"i1".as_slice() {
-        Some(CellTy::Int(Width::W1))
-    } else if text == b"i8".as_slice() {
-        Some(CellTy::Int(Width::W8))
-    } else if text == b"i16".as_slice() {
-        Some(CellTy::Int(Width::W16))
-    } else if text == b"i32".as_slice() {
-        Some(CellTy::Int(Width::W32))
-    } else if text == b"i64".as_slice() {
-        Some(CellTy::Int(Width::W64))
-    } else if text == b"index".as_slice() {
-        Some(CellTy::Index)
-    } else if text == b"!async.token".as_slice() {
-        Some(CellTy::Token)
-    } else if text == b"!async.group".as_slice() {
-        Some(CellTy::Group)
-    } else if text == b"!async.value<i1>".as_slice() {
-        Some(CellTy::Value(NumTy::Int(Width::W1)))
-    } else if text == b"!async.value<i8>".as_slice() {
-        Some(CellTy::Value(NumTy::Int(Width::W8)))
-    } else if text == b"!async.value<i16>".as_slice() {
-        Some(CellTy::Value(NumTy::Int(Width::W16)))
-    } else if text == b"!async.value<i32>".as_slice() {
-        Some(CellTy::Value(NumTy::Int(Width::W32)))
-    } else if text == b"!async.value<i64>".as_slice() {
-        Some(CellTy::Value(NumTy::Int(Width::W64)))
-    } else if text == b"!async.value<index>".as_slice() {
-        Some(CellTy::Value(NumTy::Index))
-    } else {
-        None
-    }
+    among(
+        &[
+            ("i1", CellTy::Int(Width::W1)),
+            ("i8", CellTy::Int(Width::W8)),
+            ("i16", CellTy::Int(Width::W16)),
+            ("i32", CellTy::Int(Width::W32)),
+            ("i64", CellTy::Int(Width::W64)),
+            ("index", CellTy::Index),
+            ("!async.token", CellTy::Token),
+            ("!async.group", CellTy::Group),
+            ("!async.value<i1>", CellTy::Value(NumTy::Int(Width::W1))),
+            ("!async.value<i8>", CellTy::Value(NumTy::Int(Width::W8))),
+            ("!async.value<i16>", CellTy::Value(NumTy::Int(Width::W16))),
+            ("!async.value<i32>", CellTy::Value(NumTy::Int(Width::W32))),
+            ("!async.value<i64>", CellTy::Value(NumTy::Int(Width::W64))),
+            ("!async.value<index>", CellTy::Value(NumTy::Index)),
+        ],
+        text,
+    )
 }
 
 /// The type with these dimensions, of which there are four at most, and this element.
@@ -164,6 +150,7 @@ fn number_type(text: &[u8]) -> Option<Ty>
     }
 }
 
+/// The type that a name with `!` writes.
 fn bang_type(text: &[u8]) -> Option<Ty>
     ensures { result ≡ among bang_types text.now }
 {
@@ -187,7 +174,7 @@ fn payload_of_type(ty: Option<Ty>) -> Option<ValTy>
     }
 }
 
-impl Tok {
+impl<'a> Tok<'a> {
     /// The type that the token writes alone.
     #[tactic(auto, unfolding(crate::specs::Tokens::type_of))]
     pub fn ty(&self, alloc: Global) -> Result<Option<Ty>, AllocError>

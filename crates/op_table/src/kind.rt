@@ -1,7 +1,8 @@
 //! The kinds of operations.
 ghost use Rattle.std.specs.Prelude.{◌≡◌};
-ghost use Rattle.op_table.specs.Rows.{all_kinds, is_terminator, stands_at};
+ghost use Rattle.op_table.specs.Rows.{all_kinds, is_terminator, name_of, row_of, stands_at, stands_in_body};
 
+use crate::form::Form;
 use crate::rows::{Level, row};
 use crate::table::KINDS;
 
@@ -97,6 +98,28 @@ impl OpKind {
         ensures { result ≡ stands_at self level }
     {
         row(self).level <= level
+    }
+
+    /// The full name, with its dialect.
+    pub fn name(self) -> &'static str
+        ensures { result.now ≡ name_of self }
+    {
+        row(self).name
+    }
+
+    /// The form that the kind has in common with others.
+    pub fn form(self) -> Form
+        ensures { result ≡ (row_of self).form }
+    {
+        row(self).form
+    }
+
+    /// Whether function bodies of this level may hold the operation: it has a form, and stands at the level.
+    pub fn stands_in_body(self, level: Level) -> bool
+        ensures { result ≡ stands_in_body self level }
+    {
+        let row = row(self);
+        !matches!(row.form, Form::Other) && row.level <= level
     }
 
     /// Whether the operation ends a region or a block.

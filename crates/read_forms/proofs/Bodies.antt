@@ -29,10 +29,9 @@ form-of : (level : Level) (s : State) (at : ℕ) (rs : List Name) → at < 42949
 unfolding does
 form-of level s at rs fits room small =
     each-form level [] [] (Formed level (ready s op.ScfReduce at rs)) (ready s op.ScfReduce at rs)
-    (λ k f st t e. λ n.
-    subst (λ (j : OpKind). Owes (triples level) (form k ++ []) (Formed level (ready s op.ScfReduce at rs)) (ready (record s { last = t }) j at rs)) (sym e)
-    (owes-then (triples level) (form k) [] (Formed level (ready s op.ScfReduce at rs)) (ready (record s { last = t }) k at rs)
-    (form-owes level k f st (record s { last = t }) at rs fits room)))
+    (λ k f st t. λ n.
+    owes-then (triples level) (form k) [] (Formed level (ready s op.ScfReduce at rs)) (ready (record s { last = t }) k at rs)
+    (form-owes level k f st (record s { last = t }) at rs fits room))
 
 pub form-lines : (level : Level) (s : State) → IsSmall s → BeforeForm s → Lines level rule.Form s
 form-lines level s small h =
@@ -109,13 +108,12 @@ body-of level s room small = (
         ),
   ),
   each-form level (doing act.BeginOp) ends (Bodied level (between s)) (between s)
-      (λ k f st t e. λ n. λ n1.
+      (λ k f st t. λ n. λ n1.
       let s1 : State = record s { last = t; begun = up s.begun 1 } in
-      subst (λ (j : OpKind). Owes (triples level) (form k ++ ends) (Bodied level (between s)) (ready s1 j (as_number (up s.begun 1)) [])) (sym e)
-      (owes-then (triples level) (form k) ends (Bodied level (between s)) (ready s1 k (as_number (up s.begun 1)) [])
+      owes-then (triples level) (form k) ends (Bodied level (between s)) (ready s1 k (as_number (up s.begun 1)) [])
       (owes-more (triples level) (form k) (Formed level (ready s1 k (as_number (up s.begun 1)) [])) (λ z. Owes (triples level) ends (Bodied level (between s)) z)
       (ready s1 k (as_number (up s.begun 1)) []) (λ z i x. ends-after level s [] s.next tt (omega arith) z x) small
-      (form-owes level k f st s1 (as_number (up s.begun 1)) [] (omega arith) room)))),
+      (form-owes level k f st s1 (as_number (up s.begun 1)) [] (omega arith) room))),
 )
 
 between-is : (s : State) → Between s → between s ≡ s

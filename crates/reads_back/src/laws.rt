@@ -3,10 +3,10 @@ ghost use Rattle.reads_back.specs.ReadsBack.{PrintsBack, ReadsBack};
 
 use mlir_lex::one_reading;
 use mlir_print::{reads_as_spelled, takes_words};
-use mlir_text::reads_texts;
 use print_laws::{has_few_tokens, is_plain_text};
 use read_forms::{reads_depth, reads_printable, sees_no_deeper};
 use round_trip::gives_back;
+use text_laws::reads_texts;
 
 /// The printed text of a printable module stands for it.
 pub fn prints_back()

@@ -25,7 +25,7 @@ use Rattle.round_trip.proofs.Values.{name_text, AreBelow, new-name, other-text, 
 use Rattle.round_trip.proofs.Segments.{mark}
 use Rattle.round_trip.proofs.Shapes.{NextIs}
 use Rattle.round_trip.proofs.Tails.{no-dict, no-place}
-use Rattle.round_trip.proofs.OpNames.{form-line, kind-back, name-next}
+use Rattle.round_trip.proofs.OpNames.{form-line, name-next}
 use Rattle.round_trip.proofs.Results.{with_results, result-is, results-more, no-results, results}
 
 -- The words go on in a body, also where an operation is open whose end is still to come.
@@ -104,9 +104,7 @@ module _ {level : Level} {m : Module} {k : List Symbol} (c : Core) (ws : List Wo
           → Runs level m (symbol.Rule rule.Body ∷ k) (record c { passing = p }) ((kind.Name, name_of kd) ∷ ws)
       begins {p} r =
           line _ (form-line (doing act.BeginOp) ends (kinds_at level) (name_of kd) kd (record c { passing = p }) stands)
-          (act refl (act refl
-          (subst (λ (x : OpKind). Runs level m ((form kd ++ ends) ++ k) (record (kinded x (begun_op c)) { passing = record p { last = (kind.Name, name_of kd) } }) ws) (sym (kind-back kd))
-          (rw (append_assoc (form kd) ends k) r))))
+          (act refl (act refl (rw (append_assoc (form kd) ends k) r)))
 
   -- ---- an operation with results
 
@@ -115,9 +113,7 @@ module _ {level : Level} {m : Module} {k : List Symbol} (c : Core) (ws : List Wo
       → Any level m (form kd ++ (ends ++ k)) (kinded kd o) ws → Any level m (symbol.Rule rule.Form ∷ ends ++ k) o ((kind.Name, name_of kd) ∷ ws)
   form-on o kd stands runs p =
       line _ (form-line [] [] (kinds_at level) (name_of kd) kd (record o { passing = p }) stands)
-      (act refl
-      (subst (λ (x : OpKind). Runs level m ((form kd ++ []) ++ (ends ++ k)) (record (kinded x o) { passing = record p { last = (kind.Name, name_of kd) } }) ws) (sym (kind-back kd))
-      (rw (append-nil (form kd)) (runs _))))
+      (act refl (rw (append-nil (form kd)) (runs _)))
 
   hold-more : (vs : List ValueNo) (o : Core)
       → Any level m (symbol.Rule rule.AfterHeld ∷ ends ++ k) (record o { held = o.held ++ map name_text vs }) (mark 61 ∷ ws)

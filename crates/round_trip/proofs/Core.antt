@@ -23,7 +23,7 @@ use Rattle.module_grammar.specs.declared.state.OpenFunc.{OpenFunc}
 use Rattle.module_grammar.specs.declared.state.Entry.{Entry}
 use Rattle.module_grammar.specs.declared.state.Entry.TheVariants as entry
 use Rattle.module_grammar.specs.declared.state.State.{State}
-use Rattle.module_grammar.specs.Tokens.{kind_named, type_of, payload_of, predicate_of, symbol_of, string_of}
+use Rattle.module_grammar.specs.Tokens.{type_of, payload_of, predicate_of, symbol_of, string_of}
 use Rattle.module_grammar.specs.State.{up, number_up, as_number, resolved, no_op, no_body, no_func, param_names, param_value, last_typed, typed_by, first_type, element_type, payload_types, value_type, is_true, body_ops, left_out, with_made, begun_with, op_of, entry_after, entry_number, last_of, without_last, literal, ungrouped, region_of}
 
 -- ---- what is kept
@@ -220,7 +220,7 @@ done act.EndFunc c = record c {
   } ∷ [];
 }
 done act.BeginOp c = begun_op c
-done act.Kind c = with_op c (record (c.op) { kind = kind_named c.passing.last.1 })
+done (act.Kind k) c = with_op c (record (c.op) { kind = k })
 done act.EndOp c = ended_op c
 done act.OpAt c = numbered c.passing.entry_at c
 done act.OpenRegion c = opened c

@@ -2,6 +2,9 @@
 use Rattle.std.proofs.Common.{◌≡◌, ℕ, Bool, true, false, List, [], ◌∷◌, ◌++◌, length, inl, inr, refl, ap, subst, ◌∙◌, arith}
 use Rattle.op_table.specs.declared.kind.OpKind.{OpKind}
 use Rattle.op_table.specs.declared.kind.OpKind.TheVariants as op
+use Rattle.op_table.specs.declared.form.Form.{Form}
+use Rattle.op_table.specs.declared.form.Form.TheVariants as shape
+use Rattle.op_table.specs.Rows.{row_of}
 use Rattle.op_table.specs.declared.rows.Level.{Level}
 use Rattle.ir_forms.specs.declared.types.Ty.{Ty}
 use Rattle.ir_forms.specs.declared.types.Ty.TheVariants as ty
@@ -22,13 +25,13 @@ use Rattle.module_grammar.specs.declared.symbols.Keyword.TheVariants as key
 use Rattle.module_grammar.specs.declared.symbols.Symbol.{Symbol}
 use Rattle.module_grammar.specs.declared.symbols.Symbol.TheVariants as symbol
 use Rattle.module_grammar.specs.State.{payload_types, cell_type as cell_of}
-use Rattle.module_grammar.specs.Rules.{operand, comma, typed, doing, word as keyword_of, part, ends, form}
+use Rattle.module_grammar.specs.Rules.{operand, comma, typed, doing, word as keyword_of, part, ends, parts, form}
 use Rattle.mlir_print.specs.Docs as Docs
 use Rattle.mlir_print.specs.Docs.{Doc, Blank, ◌<>◌, commas, more}
 use Rattle.mlir_print.specs.Types.{types}
 use Rattle.mlir_print.specs.Tokens.{attr_doc}
-use Rattle.mlir_print.specs.Forms.{uses, typed as typed_doc, typed_values, cast_form, compare_form, constant_form, call_form, load_form, store_form, condition_form, types_of, form as form_doc}
-use Rattle.mlir_print.specs.Printable.{Has, HasForm, IsBinary, IsCast, IsConstant, IsYield, HaveTypes, cell_type, payloads}
+use Rattle.mlir_print.specs.Forms.{uses, typed as typed_doc, typed_values, cast_form, compare_form, constant_form, call_form, load_form, store_form, condition_form, types_of, form_doc as parts_doc, form as form_doc}
+use Rattle.mlir_print.specs.Printable.{Has, HasForm, HasParts, IsBinary, IsCast, IsConstant, IsYield, HaveTypes, cell_type, payloads}
 use Rattle.round_trip.proofs.Core.{Word, Core}
 use Rattle.round_trip.proofs.Machine.{Runs}
 use Rattle.round_trip.proofs.Docs.{onto}
@@ -141,63 +144,54 @@ module _ {level : Level} {m : Module} {k : List Symbol} (ws : List Word) (c : Co
   condition-form : IsYield 1 o → Runs level m (form op.ScfCondition ++ (ends ++ k)) (at_op c (blank kd at rs)) (onto (condition_form o) ws)
   condition-form h = rw h.4.written_are (condition c kd at rs (operands_of o) h.1 h.0 h.4.operand_count f h.2 h.3 (now _ _ _ _ h.4))
 
+abbrev pub writes_regions : Form → Bool
+writes_regions shape.For = true
+writes_regions shape.If = true
+writes_regions shape.While = true
+writes_regions shape.Parallel = true
+writes_regions shape.Execute = true
+writes_regions _ = false
+
 abbrev pub has_regions : OpKind → Bool
-has_regions op.AsyncExecute = true
-has_regions op.ScfFor = true
-has_regions op.ScfIf = true
-has_regions op.ScfParallel = true
-has_regions op.ScfWhile = true
-has_regions _ = false
+has_regions kd = writes_regions (row_of kd).form
+
+formed-parts : {level : Level} {m : Module} {k : List Symbol} (ws : List Word) (c : Core) (g : Form) (kd : OpKind) (at : ℕ) (rs : List Name) (o : Op)
+    → writes_regions g ≡ false → kind_of o ≡ kd → HasParts g o → Finds c.visible (operands_of o)
+    → After level m k (at_op c (whole o at rs)) ws
+    → Runs level m (parts g ++ (ends ++ k)) (at_op c (blank kd at rs)) (onto (parts_doc g o) ws)
+formed-parts ws c shape.Binary kd at rs o flat e h f after = two ws c kd at rs o e f after h
+formed-parts ws c shape.Compare kd at rs o flat e h f after = compare-form ws c kd at rs o e f after h
+formed-parts ws c shape.Select kd at rs o flat e h f after = three ws c kd at rs o e f after h
+formed-parts ws c shape.Extend kd at rs o flat e h f after = cast-form ws c kd at rs o e f after h
+formed-parts ws c shape.Truncate kd at rs o flat e h f after = cast-form ws c kd at rs o e f after h
+formed-parts ws c shape.IndexCast kd at rs o flat e h f after = cast-form ws c kd at rs o e f after h
+formed-parts ws c shape.Constant kd at rs o flat e h f after = constant-form ws c kd at rs o e f after h
+formed-parts ws c shape.Assert kd at rs o flat e h f after = assert-form ws c kd at rs o e f after h
+formed-parts ws c shape.Call kd at rs o flat e h f after = call-form ws c kd at rs o e f after h
+formed-parts ws c shape.TryCall kd at rs o flat e h f after = try_call-form ws c kd at rs o e f after h
+formed-parts ws c shape.Return kd at rs o flat e h f after = yield-form ws c kd at rs o e f after h
+formed-parts ws c shape.For kd at rs o flat e h f after = absurd cc
+formed-parts ws c shape.If kd at rs o flat e h f after = absurd cc
+formed-parts ws c shape.While kd at rs o flat e h f after = absurd cc
+formed-parts ws c shape.Condition kd at rs o flat e h f after = condition-form ws c kd at rs o e f after h
+formed-parts ws c shape.Parallel kd at rs o flat e h f after = absurd cc
+formed-parts ws c shape.Reduce kd at rs o flat e h f after = reduce-form ws c kd at rs o e f after h
+formed-parts ws c shape.Yield kd at rs o flat e h f after = yield-form ws c kd at rs o e f after h
+formed-parts ws c shape.Alloc kd at rs o flat e h f after = alloc-form ws c kd at rs o e f after h
+formed-parts ws c shape.Dealloc kd at rs o flat e h f after = dealloc-form ws c kd at rs o e f after h
+formed-parts ws c shape.Load kd at rs o flat e h f after = load-form ws c kd at rs o e f after h
+formed-parts ws c shape.Store kd at rs o flat e h f after = store-form ws c kd at rs o e f after h
+formed-parts ws c shape.Dim kd at rs o flat e h f after = dim-form ws c kd at rs o e f after h
+formed-parts ws c shape.Execute kd at rs o flat e h f after = absurd cc
+formed-parts ws c shape.TaskYield kd at rs o flat e h f after = yield-form ws c kd at rs o e f after h
+formed-parts ws c shape.Await kd at rs o flat e h f after = await-form ws c kd at rs o e f after h
+formed-parts ws c shape.AwaitAll kd at rs o flat e h f after = await_all-form ws c kd at rs o e f after h
+formed-parts ws c shape.CreateGroup kd at rs o flat e h f after = create_group-form ws c kd at rs o e f after h
+formed-parts ws c shape.AddToGroup kd at rs o flat e h f after = add_to_group-form ws c kd at rs o e f after h
+formed-parts ws c shape.Other kd at rs o flat e h f after = absurd h
 
 pub formed : {level : Level} {m : Module} {k : List Symbol} (ws : List Word) (c : Core) (kd : OpKind) (at : ℕ) (rs : List Name) (o : Op)
     → has_regions kd ≡ false → kind_of o ≡ kd → HasForm kd o → Finds c.visible (operands_of o)
     → After level m k (at_op c (whole o at rs)) ws
     → Runs level m (form kd ++ (ends ++ k)) (at_op c (blank kd at rs)) (onto (form_doc kd o) ws)
-formed ws c op.AioTryCall at rs o flat e h f after = try_call-form ws c op.AioTryCall at rs o e f after h
-formed ws c op.ArithAddi at rs o flat e h f after = two ws c op.ArithAddi at rs o e f after h
-formed ws c op.ArithAndi at rs o flat e h f after = two ws c op.ArithAndi at rs o e f after h
-formed ws c op.ArithCmpi at rs o flat e h f after = compare-form ws c op.ArithCmpi at rs o e f after h
-formed ws c op.ArithConstant at rs o flat e h f after = constant-form ws c op.ArithConstant at rs o e f after h
-formed ws c op.ArithDivsi at rs o flat e h f after = two ws c op.ArithDivsi at rs o e f after h
-formed ws c op.ArithDivui at rs o flat e h f after = two ws c op.ArithDivui at rs o e f after h
-formed ws c op.ArithExtsi at rs o flat e h f after = cast-form ws c op.ArithExtsi at rs o e f after h
-formed ws c op.ArithExtui at rs o flat e h f after = cast-form ws c op.ArithExtui at rs o e f after h
-formed ws c op.ArithIndexCast at rs o flat e h f after = cast-form ws c op.ArithIndexCast at rs o e f after h
-formed ws c op.ArithIndexCastui at rs o flat e h f after = cast-form ws c op.ArithIndexCastui at rs o e f after h
-formed ws c op.ArithMaxsi at rs o flat e h f after = two ws c op.ArithMaxsi at rs o e f after h
-formed ws c op.ArithMaxui at rs o flat e h f after = two ws c op.ArithMaxui at rs o e f after h
-formed ws c op.ArithMinsi at rs o flat e h f after = two ws c op.ArithMinsi at rs o e f after h
-formed ws c op.ArithMinui at rs o flat e h f after = two ws c op.ArithMinui at rs o e f after h
-formed ws c op.ArithMuli at rs o flat e h f after = two ws c op.ArithMuli at rs o e f after h
-formed ws c op.ArithOri at rs o flat e h f after = two ws c op.ArithOri at rs o e f after h
-formed ws c op.ArithRemsi at rs o flat e h f after = two ws c op.ArithRemsi at rs o e f after h
-formed ws c op.ArithRemui at rs o flat e h f after = two ws c op.ArithRemui at rs o e f after h
-formed ws c op.ArithSelect at rs o flat e h f after = three ws c op.ArithSelect at rs o e f after h
-formed ws c op.ArithShli at rs o flat e h f after = two ws c op.ArithShli at rs o e f after h
-formed ws c op.ArithShrsi at rs o flat e h f after = two ws c op.ArithShrsi at rs o e f after h
-formed ws c op.ArithShrui at rs o flat e h f after = two ws c op.ArithShrui at rs o e f after h
-formed ws c op.ArithSubi at rs o flat e h f after = two ws c op.ArithSubi at rs o e f after h
-formed ws c op.ArithTrunci at rs o flat e h f after = cast-form ws c op.ArithTrunci at rs o e f after h
-formed ws c op.ArithXori at rs o flat e h f after = two ws c op.ArithXori at rs o e f after h
-formed ws c op.AsyncAddToGroup at rs o flat e h f after = add_to_group-form ws c op.AsyncAddToGroup at rs o e f after h
-formed ws c op.AsyncAwait at rs o flat e h f after = await-form ws c op.AsyncAwait at rs o e f after h
-formed ws c op.AsyncAwaitAll at rs o flat e h f after = await_all-form ws c op.AsyncAwaitAll at rs o e f after h
-formed ws c op.AsyncCreateGroup at rs o flat e h f after = create_group-form ws c op.AsyncCreateGroup at rs o e f after h
-formed ws c op.AsyncYield at rs o flat e h f after = yield-form ws c op.AsyncYield at rs o e f after h
-formed ws c op.CfAssert at rs o flat e h f after = assert-form ws c op.CfAssert at rs o e f after h
-formed ws c op.FuncCall at rs o flat e h f after = call-form ws c op.FuncCall at rs o e f after h
-formed ws c op.FuncReturn at rs o flat e h f after = yield-form ws c op.FuncReturn at rs o e f after h
-formed ws c op.MemrefAlloc at rs o flat e h f after = alloc-form ws c op.MemrefAlloc at rs o e f after h
-formed ws c op.MemrefDealloc at rs o flat e h f after = dealloc-form ws c op.MemrefDealloc at rs o e f after h
-formed ws c op.MemrefDim at rs o flat e h f after = dim-form ws c op.MemrefDim at rs o e f after h
-formed ws c op.MemrefLoad at rs o flat e h f after = load-form ws c op.MemrefLoad at rs o e f after h
-formed ws c op.MemrefStore at rs o flat e h f after = store-form ws c op.MemrefStore at rs o e f after h
-formed ws c op.ScfCondition at rs o flat e h f after = condition-form ws c op.ScfCondition at rs o e f after h
-formed ws c op.ScfReduce at rs o flat e h f after = reduce-form ws c op.ScfReduce at rs o e f after h
-formed ws c op.ScfYield at rs o flat e h f after = yield-form ws c op.ScfYield at rs o e f after h
-formed ws c op.AsyncExecute at rs o flat e h f after = absurd cc
-formed ws c op.ScfFor at rs o flat e h f after = absurd cc
-formed ws c op.ScfIf at rs o flat e h f after = absurd cc
-formed ws c op.ScfParallel at rs o flat e h f after = absurd cc
-formed ws c op.ScfWhile at rs o flat e h f after = absurd cc
-formed ws c _ at rs o flat e h f after = absurd h
+formed ws c kd at rs o flat e h f after = formed-parts ws c (row_of kd).form kd at rs o flat e h f after

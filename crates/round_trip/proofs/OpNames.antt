@@ -1,458 +1,87 @@
 -- The names of operations are read as the kinds that they name.
-use Rattle.std.proofs.Common.{◌≡◌, ℕ, Bool, true, false, cond, List, [], ◌∷◌, ◌++◌, Option, Some, IsTrue, refl, ap, subst, bytes_eq}
+use Rattle.std.proofs.Common.{◌≡◌, ℕ, Bool, true, false, cond, List, [], ◌∷◌, ◌++◌, Option, Some, None, IsTrue, not, ◌&&◌, refl, sym, ap, subst, bytes_eq}
+use Rattle.std.specs.List.{list_all}
+use Rattle.std.proofs.lemmas.Slice.Eq.{bytes_eq-Decides}
 use Rattle.mlir_lex.specs.declared.kinds.TokenKind.TheVariants as kind
 use Rattle.op_table.specs.declared.kind.OpKind.{OpKind}
 use Rattle.op_table.specs.declared.kind.OpKind.TheVariants as op
 use Rattle.op_table.specs.declared.rows.Level.{Level}
 use Rattle.op_table.specs.declared.rows.Level.TheVariants.{Source, Checked, Split, Low}
-use Rattle.op_table.specs.Rows.{name_of, stands_at}
+use Rattle.op_table.specs.declared.form.Form.{Form}
+use Rattle.op_table.specs.declared.form.Form.TheVariants as shape
+use Rattle.op_table.specs.Rows.{row_of, is_other, name_of, stands_at, body_kinds}
+use Rattle.op_table.proofs.Finding.{body_kind, distinct}
 use Rattle.ir_forms.specs.declared.ops.Op.{Op}
 use Rattle.module_grammar.specs.declared.symbols.Class.TheVariants as class
 use Rattle.module_grammar.specs.declared.symbols.Act.TheVariants as act
 use Rattle.module_grammar.specs.declared.symbols.Keyword.TheVariants as key
 use Rattle.module_grammar.specs.declared.symbols.Symbol.{Symbol}
-use Rattle.module_grammar.specs.Tokens.{is_name_of, kind_among, kind_named, word_of}
+use Rattle.module_grammar.specs.Tokens.{is_name_of, kind_among, word_of}
 use Rattle.module_grammar.specs.Rules.{kinds_at, forms_then, doing, form, line as line_of}
-use Rattle.mlir_print.specs.Printable.{HasForm}
+use Rattle.mlir_print.specs.Printable.{HasForm, HasParts}
 use Rattle.round_trip.proofs.Core.{Core}
 use Rattle.round_trip.proofs.Machine.{first_fit}
 use Rattle.round_trip.proofs.Shapes.{IsNext}
 
 -- the line of a form among those of others
 pub form-line : (before ss : List Symbol) (ks : List OpKind) (text : List ℕ) (kd : OpKind) (c : Core) → kind_among ks text ≡ Some kd
-    → first_fit (forms_then before ss ks) c (kind.Name, text) ≡ Some (line_of (class.OpName kd) (before ++ doing act.Kind ++ form kd ++ ss))
+    → first_fit (forms_then before ss ks) c (kind.Name, text) ≡ Some (line_of (class.OpName kd) (before ++ doing (act.Kind kd) ++ form kd ++ ss))
 form-line before ss [] text kd c e = absurd cc
 form-line before ss (k ∷ ks) text kd c e = by_name (is_name_of k text) refl (form-line before ss ks text kd c)
   where
     by_name : (b : Bool) → is_name_of k text ≡ b
-        → (kind_among ks text ≡ Some kd → first_fit (forms_then before ss ks) c (kind.Name, text) ≡ Some (line_of (class.OpName kd) (before ++ doing act.Kind ++ form kd ++ ss)))
-        → first_fit (forms_then before ss (k ∷ ks)) c (kind.Name, text) ≡ Some (line_of (class.OpName kd) (before ++ doing act.Kind ++ form kd ++ ss))
+        → (kind_among ks text ≡ Some kd → first_fit (forms_then before ss ks) c (kind.Name, text) ≡ Some (line_of (class.OpName kd) (before ++ doing (act.Kind kd) ++ form kd ++ ss)))
+        → first_fit (forms_then before ss (k ∷ ks)) c (kind.Name, text) ≡ Some (line_of (class.OpName kd) (before ++ doing (act.Kind kd) ++ form kd ++ ss))
     by_name true is more =
         let found : Some k ≡ Some kd = subst (λ (b : Bool). cond {A = Option OpKind} b (Some k) (kind_among ks text) ≡ Some kd) is e in
         let same : k ≡ kd = cc in
-        rw is (ap (λ (x : OpKind). Some (line_of (class.OpName x) (before ++ doing act.Kind ++ form x ++ ss))) same)
+        rw is (ap (λ (x : OpKind). Some (line_of (class.OpName x) (before ++ doing (act.Kind x) ++ form x ++ ss))) same)
     by_name false is more =
         rw is (more (subst (λ (b : Bool). cond {A = Option OpKind} b (Some k) (kind_among ks text) ≡ Some kd) is e))
 
-pub kind-back : (kd : OpKind) → kind_named (name_of kd) ≡ kd
-kind-back op.AioCall = refl
-kind-back op.AioFail = refl
-kind-back op.AioFinish = refl
-kind-back op.AioTryCall = refl
-kind-back op.ArithAddi = refl
-kind-back op.ArithAndi = refl
-kind-back op.ArithCmpi = refl
-kind-back op.ArithConstant = refl
-kind-back op.ArithDivsi = refl
-kind-back op.ArithDivui = refl
-kind-back op.ArithExtsi = refl
-kind-back op.ArithExtui = refl
-kind-back op.ArithIndexCast = refl
-kind-back op.ArithIndexCastui = refl
-kind-back op.ArithMaxsi = refl
-kind-back op.ArithMaxui = refl
-kind-back op.ArithMinsi = refl
-kind-back op.ArithMinui = refl
-kind-back op.ArithMuli = refl
-kind-back op.ArithOri = refl
-kind-back op.ArithRemsi = refl
-kind-back op.ArithRemui = refl
-kind-back op.ArithSelect = refl
-kind-back op.ArithShli = refl
-kind-back op.ArithShrsi = refl
-kind-back op.ArithShrui = refl
-kind-back op.ArithSubi = refl
-kind-back op.ArithTrunci = refl
-kind-back op.ArithXori = refl
-kind-back op.AsyncAddToGroup = refl
-kind-back op.AsyncAwait = refl
-kind-back op.AsyncAwaitAll = refl
-kind-back op.AsyncCoroBegin = refl
-kind-back op.AsyncCoroEnd = refl
-kind-back op.AsyncCoroFree = refl
-kind-back op.AsyncCoroId = refl
-kind-back op.AsyncCoroSave = refl
-kind-back op.AsyncCoroSuspend = refl
-kind-back op.AsyncCreateGroup = refl
-kind-back op.AsyncExecute = refl
-kind-back op.AsyncRuntimeAddRef = refl
-kind-back op.AsyncRuntimeAddToGroup = refl
-kind-back op.AsyncRuntimeAwait = refl
-kind-back op.AsyncRuntimeAwaitAndResume = refl
-kind-back op.AsyncRuntimeCreate = refl
-kind-back op.AsyncRuntimeCreateGroup = refl
-kind-back op.AsyncRuntimeDropRef = refl
-kind-back op.AsyncRuntimeIsError = refl
-kind-back op.AsyncRuntimeLoad = refl
-kind-back op.AsyncRuntimeResume = refl
-kind-back op.AsyncRuntimeSetAvailable = refl
-kind-back op.AsyncRuntimeSetError = refl
-kind-back op.AsyncRuntimeStore = refl
-kind-back op.AsyncYield = refl
-kind-back op.CfAssert = refl
-kind-back op.CfBr = refl
-kind-back op.CfCondBr = refl
-kind-back op.FuncCall = refl
-kind-back op.FuncFunc = refl
-kind-back op.FuncReturn = refl
-kind-back op.MemrefAlloc = refl
-kind-back op.MemrefDealloc = refl
-kind-back op.MemrefDim = refl
-kind-back op.MemrefLoad = refl
-kind-back op.MemrefStore = refl
-kind-back op.BuiltinModule = refl
-kind-back op.ScfCondition = refl
-kind-back op.ScfFor = refl
-kind-back op.ScfIf = refl
-kind-back op.ScfParallel = refl
-kind-back op.ScfReduce = refl
-kind-back op.ScfWhile = refl
-kind-back op.ScfYield = refl
-
 no-loc : (kd : OpKind) → bytes_eq (name_of kd) (word_of key.Loc) ≡ false
 no-loc op.AioCall = refl
-no-loc op.AioFail = refl
-no-loc op.AioFinish = refl
-no-loc op.AioTryCall = refl
-no-loc op.ArithAddi = refl
-no-loc op.ArithAndi = refl
-no-loc op.ArithCmpi = refl
-no-loc op.ArithConstant = refl
-no-loc op.ArithDivsi = refl
-no-loc op.ArithDivui = refl
-no-loc op.ArithExtsi = refl
-no-loc op.ArithExtui = refl
-no-loc op.ArithIndexCast = refl
-no-loc op.ArithIndexCastui = refl
-no-loc op.ArithMaxsi = refl
-no-loc op.ArithMaxui = refl
-no-loc op.ArithMinsi = refl
-no-loc op.ArithMinui = refl
-no-loc op.ArithMuli = refl
-no-loc op.ArithOri = refl
-no-loc op.ArithRemsi = refl
-no-loc op.ArithRemui = refl
-no-loc op.ArithSelect = refl
-no-loc op.ArithShli = refl
-no-loc op.ArithShrsi = refl
-no-loc op.ArithShrui = refl
-no-loc op.ArithSubi = refl
-no-loc op.ArithTrunci = refl
-no-loc op.ArithXori = refl
-no-loc op.AsyncAddToGroup = refl
-no-loc op.AsyncAwait = refl
-no-loc op.AsyncAwaitAll = refl
-no-loc op.AsyncCoroBegin = refl
-no-loc op.AsyncCoroEnd = refl
-no-loc op.AsyncCoroFree = refl
-no-loc op.AsyncCoroId = refl
-no-loc op.AsyncCoroSave = refl
-no-loc op.AsyncCoroSuspend = refl
-no-loc op.AsyncCreateGroup = refl
-no-loc op.AsyncExecute = refl
-no-loc op.AsyncRuntimeAddRef = refl
-no-loc op.AsyncRuntimeAddToGroup = refl
-no-loc op.AsyncRuntimeAwait = refl
-no-loc op.AsyncRuntimeAwaitAndResume = refl
-no-loc op.AsyncRuntimeCreate = refl
-no-loc op.AsyncRuntimeCreateGroup = refl
-no-loc op.AsyncRuntimeDropRef = refl
-no-loc op.AsyncRuntimeIsError = refl
-no-loc op.AsyncRuntimeLoad = refl
-no-loc op.AsyncRuntimeResume = refl
-no-loc op.AsyncRuntimeSetAvailable = refl
-no-loc op.AsyncRuntimeSetError = refl
-no-loc op.AsyncRuntimeStore = refl
-no-loc op.AsyncYield = refl
-no-loc op.CfAssert = refl
-no-loc op.CfBr = refl
-no-loc op.CfCondBr = refl
-no-loc op.FuncCall = refl
-no-loc op.FuncFunc = refl
-no-loc op.FuncReturn = refl
-no-loc op.MemrefAlloc = refl
-no-loc op.MemrefDealloc = refl
-no-loc op.MemrefDim = refl
-no-loc op.MemrefLoad = refl
-no-loc op.MemrefStore = refl
-no-loc op.BuiltinModule = refl
-no-loc op.ScfCondition = refl
-no-loc op.ScfFor = refl
-no-loc op.ScfIf = refl
-no-loc op.ScfParallel = refl
-no-loc op.ScfReduce = refl
-no-loc op.ScfWhile = refl
-no-loc op.ScfYield = refl
+no-loc _ = refl
 
 no-else : (kd : OpKind) → bytes_eq (name_of kd) (word_of key.Else) ≡ false
 no-else op.AioCall = refl
-no-else op.AioFail = refl
-no-else op.AioFinish = refl
-no-else op.AioTryCall = refl
-no-else op.ArithAddi = refl
-no-else op.ArithAndi = refl
-no-else op.ArithCmpi = refl
-no-else op.ArithConstant = refl
-no-else op.ArithDivsi = refl
-no-else op.ArithDivui = refl
-no-else op.ArithExtsi = refl
-no-else op.ArithExtui = refl
-no-else op.ArithIndexCast = refl
-no-else op.ArithIndexCastui = refl
-no-else op.ArithMaxsi = refl
-no-else op.ArithMaxui = refl
-no-else op.ArithMinsi = refl
-no-else op.ArithMinui = refl
-no-else op.ArithMuli = refl
-no-else op.ArithOri = refl
-no-else op.ArithRemsi = refl
-no-else op.ArithRemui = refl
-no-else op.ArithSelect = refl
-no-else op.ArithShli = refl
-no-else op.ArithShrsi = refl
-no-else op.ArithShrui = refl
-no-else op.ArithSubi = refl
-no-else op.ArithTrunci = refl
-no-else op.ArithXori = refl
-no-else op.AsyncAddToGroup = refl
-no-else op.AsyncAwait = refl
-no-else op.AsyncAwaitAll = refl
-no-else op.AsyncCoroBegin = refl
-no-else op.AsyncCoroEnd = refl
-no-else op.AsyncCoroFree = refl
-no-else op.AsyncCoroId = refl
-no-else op.AsyncCoroSave = refl
-no-else op.AsyncCoroSuspend = refl
-no-else op.AsyncCreateGroup = refl
-no-else op.AsyncExecute = refl
-no-else op.AsyncRuntimeAddRef = refl
-no-else op.AsyncRuntimeAddToGroup = refl
-no-else op.AsyncRuntimeAwait = refl
-no-else op.AsyncRuntimeAwaitAndResume = refl
-no-else op.AsyncRuntimeCreate = refl
-no-else op.AsyncRuntimeCreateGroup = refl
-no-else op.AsyncRuntimeDropRef = refl
-no-else op.AsyncRuntimeIsError = refl
-no-else op.AsyncRuntimeLoad = refl
-no-else op.AsyncRuntimeResume = refl
-no-else op.AsyncRuntimeSetAvailable = refl
-no-else op.AsyncRuntimeSetError = refl
-no-else op.AsyncRuntimeStore = refl
-no-else op.AsyncYield = refl
-no-else op.CfAssert = refl
-no-else op.CfBr = refl
-no-else op.CfCondBr = refl
-no-else op.FuncCall = refl
-no-else op.FuncFunc = refl
-no-else op.FuncReturn = refl
-no-else op.MemrefAlloc = refl
-no-else op.MemrefDealloc = refl
-no-else op.MemrefDim = refl
-no-else op.MemrefLoad = refl
-no-else op.MemrefStore = refl
-no-else op.BuiltinModule = refl
-no-else op.ScfCondition = refl
-no-else op.ScfFor = refl
-no-else op.ScfIf = refl
-no-else op.ScfParallel = refl
-no-else op.ScfReduce = refl
-no-else op.ScfWhile = refl
-no-else op.ScfYield = refl
+no-else _ = refl
 
 -- an operation's name is neither `loc` nor `else`
 pub name-next : (kd : OpKind) → IsNext (kind.Name, name_of kd)
 name-next kd = record { stops = refl; no_dict = refl; no_block = refl; no_place = no-loc kd; no_else = no-else kd }
 
+-- the kind that is found by the name of another is this one
+abbrev is_same : OpKind → Option OpKind → Bool
+is_same kd None = false
+is_same kd (Some k) = bytes_eq (name_of k) (name_of kd)
+
+all-found : (level : Level) → list_all (λ k. is_same k (kind_among (kinds_at level) (name_of k))) (kinds_at level) ≡ true
+all-found Source = refl
+all-found Checked = refl
+all-found Split = refl
+all-found Low = refl
+
+same-kind : (kd : OpKind) (found : Option OpKind) → is_same kd found ≡ true → found ≡ Some kd
+same-kind kd None e = absurd cc
+same-kind kd (Some k) e = ap (λ (x : OpKind). Some x) (distinct k kd ((bytes_eq-Decides (name_of k) (name_of kd)).0 e))
+
+has-form : (f : Form) (o : Op) → HasParts f o → not (is_other f) ≡ true
+has-form shape.Other o h = absurd h
+has-form _ o h = refl
+
+both : (a b : Bool) → a ≡ true → b ≡ true → (a && b) ≡ true
+both true true e f = refl
+both true false e f = f
+both false b e f = e
+
+kinds-are : (level : Level) → body_kinds level ≡ kinds_at level
+kinds-are Source = refl
+kinds-are Checked = refl
+kinds-are Split = refl
+kinds-are Low = refl
+
 pub kind-stands : (level : Level) (kd : OpKind) (o : Op) → IsTrue (stands_at kd level) → HasForm kd o → kind_among (kinds_at level) (name_of kd) ≡ Some kd
-kind-stands Source op.ArithAddi o s h = refl
-kind-stands Source op.ArithAndi o s h = refl
-kind-stands Source op.ArithCmpi o s h = refl
-kind-stands Source op.ArithConstant o s h = refl
-kind-stands Source op.ArithDivsi o s h = refl
-kind-stands Source op.ArithDivui o s h = refl
-kind-stands Source op.ArithExtsi o s h = refl
-kind-stands Source op.ArithExtui o s h = refl
-kind-stands Source op.ArithIndexCast o s h = refl
-kind-stands Source op.ArithIndexCastui o s h = refl
-kind-stands Source op.ArithMaxsi o s h = refl
-kind-stands Source op.ArithMaxui o s h = refl
-kind-stands Source op.ArithMinsi o s h = refl
-kind-stands Source op.ArithMinui o s h = refl
-kind-stands Source op.ArithMuli o s h = refl
-kind-stands Source op.ArithOri o s h = refl
-kind-stands Source op.ArithRemsi o s h = refl
-kind-stands Source op.ArithRemui o s h = refl
-kind-stands Source op.ArithSelect o s h = refl
-kind-stands Source op.ArithShli o s h = refl
-kind-stands Source op.ArithShrsi o s h = refl
-kind-stands Source op.ArithShrui o s h = refl
-kind-stands Source op.ArithSubi o s h = refl
-kind-stands Source op.ArithTrunci o s h = refl
-kind-stands Source op.ArithXori o s h = refl
-kind-stands Source op.AsyncAddToGroup o s h = refl
-kind-stands Source op.AsyncAwait o s h = refl
-kind-stands Source op.AsyncAwaitAll o s h = refl
-kind-stands Source op.AsyncCreateGroup o s h = refl
-kind-stands Source op.AsyncExecute o s h = refl
-kind-stands Source op.AsyncYield o s h = refl
-kind-stands Source op.CfAssert o s h = refl
-kind-stands Source op.FuncCall o s h = refl
-kind-stands Source op.FuncReturn o s h = refl
-kind-stands Source op.MemrefAlloc o s h = refl
-kind-stands Source op.MemrefDealloc o s h = refl
-kind-stands Source op.MemrefDim o s h = refl
-kind-stands Source op.MemrefLoad o s h = refl
-kind-stands Source op.MemrefStore o s h = refl
-kind-stands Source op.ScfCondition o s h = refl
-kind-stands Source op.ScfFor o s h = refl
-kind-stands Source op.ScfIf o s h = refl
-kind-stands Source op.ScfParallel o s h = refl
-kind-stands Source op.ScfReduce o s h = refl
-kind-stands Source op.ScfWhile o s h = refl
-kind-stands Source op.ScfYield o s h = refl
-kind-stands Source op.AioTryCall o s h = absurd cc
-kind-stands Source _ o s h = absurd h
-kind-stands Checked op.ArithAddi o s h = refl
-kind-stands Checked op.ArithAndi o s h = refl
-kind-stands Checked op.ArithCmpi o s h = refl
-kind-stands Checked op.ArithConstant o s h = refl
-kind-stands Checked op.ArithDivsi o s h = refl
-kind-stands Checked op.ArithDivui o s h = refl
-kind-stands Checked op.ArithExtsi o s h = refl
-kind-stands Checked op.ArithExtui o s h = refl
-kind-stands Checked op.ArithIndexCast o s h = refl
-kind-stands Checked op.ArithIndexCastui o s h = refl
-kind-stands Checked op.ArithMaxsi o s h = refl
-kind-stands Checked op.ArithMaxui o s h = refl
-kind-stands Checked op.ArithMinsi o s h = refl
-kind-stands Checked op.ArithMinui o s h = refl
-kind-stands Checked op.ArithMuli o s h = refl
-kind-stands Checked op.ArithOri o s h = refl
-kind-stands Checked op.ArithRemsi o s h = refl
-kind-stands Checked op.ArithRemui o s h = refl
-kind-stands Checked op.ArithSelect o s h = refl
-kind-stands Checked op.ArithShli o s h = refl
-kind-stands Checked op.ArithShrsi o s h = refl
-kind-stands Checked op.ArithShrui o s h = refl
-kind-stands Checked op.ArithSubi o s h = refl
-kind-stands Checked op.ArithTrunci o s h = refl
-kind-stands Checked op.ArithXori o s h = refl
-kind-stands Checked op.AsyncAddToGroup o s h = refl
-kind-stands Checked op.AsyncAwait o s h = refl
-kind-stands Checked op.AsyncAwaitAll o s h = refl
-kind-stands Checked op.AsyncCreateGroup o s h = refl
-kind-stands Checked op.AsyncExecute o s h = refl
-kind-stands Checked op.AsyncYield o s h = refl
-kind-stands Checked op.CfAssert o s h = refl
-kind-stands Checked op.FuncCall o s h = refl
-kind-stands Checked op.FuncReturn o s h = refl
-kind-stands Checked op.MemrefAlloc o s h = refl
-kind-stands Checked op.MemrefDealloc o s h = refl
-kind-stands Checked op.MemrefDim o s h = refl
-kind-stands Checked op.MemrefLoad o s h = refl
-kind-stands Checked op.MemrefStore o s h = refl
-kind-stands Checked op.ScfCondition o s h = refl
-kind-stands Checked op.ScfFor o s h = refl
-kind-stands Checked op.ScfIf o s h = refl
-kind-stands Checked op.ScfParallel o s h = refl
-kind-stands Checked op.ScfReduce o s h = refl
-kind-stands Checked op.ScfWhile o s h = refl
-kind-stands Checked op.ScfYield o s h = refl
-kind-stands Checked op.AioTryCall o s h = absurd cc
-kind-stands Checked _ o s h = absurd h
-kind-stands Split op.ArithAddi o s h = refl
-kind-stands Split op.ArithAndi o s h = refl
-kind-stands Split op.ArithCmpi o s h = refl
-kind-stands Split op.ArithConstant o s h = refl
-kind-stands Split op.ArithDivsi o s h = refl
-kind-stands Split op.ArithDivui o s h = refl
-kind-stands Split op.ArithExtsi o s h = refl
-kind-stands Split op.ArithExtui o s h = refl
-kind-stands Split op.ArithIndexCast o s h = refl
-kind-stands Split op.ArithIndexCastui o s h = refl
-kind-stands Split op.ArithMaxsi o s h = refl
-kind-stands Split op.ArithMaxui o s h = refl
-kind-stands Split op.ArithMinsi o s h = refl
-kind-stands Split op.ArithMinui o s h = refl
-kind-stands Split op.ArithMuli o s h = refl
-kind-stands Split op.ArithOri o s h = refl
-kind-stands Split op.ArithRemsi o s h = refl
-kind-stands Split op.ArithRemui o s h = refl
-kind-stands Split op.ArithSelect o s h = refl
-kind-stands Split op.ArithShli o s h = refl
-kind-stands Split op.ArithShrsi o s h = refl
-kind-stands Split op.ArithShrui o s h = refl
-kind-stands Split op.ArithSubi o s h = refl
-kind-stands Split op.ArithTrunci o s h = refl
-kind-stands Split op.ArithXori o s h = refl
-kind-stands Split op.AsyncAddToGroup o s h = refl
-kind-stands Split op.AsyncAwait o s h = refl
-kind-stands Split op.AsyncAwaitAll o s h = refl
-kind-stands Split op.AsyncCreateGroup o s h = refl
-kind-stands Split op.AsyncExecute o s h = refl
-kind-stands Split op.AsyncYield o s h = refl
-kind-stands Split op.CfAssert o s h = refl
-kind-stands Split op.FuncCall o s h = refl
-kind-stands Split op.FuncReturn o s h = refl
-kind-stands Split op.MemrefAlloc o s h = refl
-kind-stands Split op.MemrefDealloc o s h = refl
-kind-stands Split op.MemrefDim o s h = refl
-kind-stands Split op.MemrefLoad o s h = refl
-kind-stands Split op.MemrefStore o s h = refl
-kind-stands Split op.ScfCondition o s h = refl
-kind-stands Split op.ScfFor o s h = refl
-kind-stands Split op.ScfIf o s h = refl
-kind-stands Split op.ScfParallel o s h = refl
-kind-stands Split op.ScfReduce o s h = refl
-kind-stands Split op.ScfWhile o s h = refl
-kind-stands Split op.ScfYield o s h = refl
-kind-stands Split op.AioTryCall o s h = refl
-kind-stands Split _ o s h = absurd h
-kind-stands Low op.ArithAddi o s h = refl
-kind-stands Low op.ArithAndi o s h = refl
-kind-stands Low op.ArithCmpi o s h = refl
-kind-stands Low op.ArithConstant o s h = refl
-kind-stands Low op.ArithDivsi o s h = refl
-kind-stands Low op.ArithDivui o s h = refl
-kind-stands Low op.ArithExtsi o s h = refl
-kind-stands Low op.ArithExtui o s h = refl
-kind-stands Low op.ArithIndexCast o s h = refl
-kind-stands Low op.ArithIndexCastui o s h = refl
-kind-stands Low op.ArithMaxsi o s h = refl
-kind-stands Low op.ArithMaxui o s h = refl
-kind-stands Low op.ArithMinsi o s h = refl
-kind-stands Low op.ArithMinui o s h = refl
-kind-stands Low op.ArithMuli o s h = refl
-kind-stands Low op.ArithOri o s h = refl
-kind-stands Low op.ArithRemsi o s h = refl
-kind-stands Low op.ArithRemui o s h = refl
-kind-stands Low op.ArithSelect o s h = refl
-kind-stands Low op.ArithShli o s h = refl
-kind-stands Low op.ArithShrsi o s h = refl
-kind-stands Low op.ArithShrui o s h = refl
-kind-stands Low op.ArithSubi o s h = refl
-kind-stands Low op.ArithTrunci o s h = refl
-kind-stands Low op.ArithXori o s h = refl
-kind-stands Low op.AsyncAddToGroup o s h = refl
-kind-stands Low op.AsyncAwait o s h = refl
-kind-stands Low op.AsyncAwaitAll o s h = refl
-kind-stands Low op.AsyncCreateGroup o s h = refl
-kind-stands Low op.AsyncExecute o s h = refl
-kind-stands Low op.AsyncYield o s h = refl
-kind-stands Low op.CfAssert o s h = refl
-kind-stands Low op.FuncCall o s h = refl
-kind-stands Low op.FuncReturn o s h = refl
-kind-stands Low op.MemrefAlloc o s h = refl
-kind-stands Low op.MemrefDealloc o s h = refl
-kind-stands Low op.MemrefDim o s h = refl
-kind-stands Low op.MemrefLoad o s h = refl
-kind-stands Low op.MemrefStore o s h = refl
-kind-stands Low op.ScfCondition o s h = refl
-kind-stands Low op.ScfFor o s h = refl
-kind-stands Low op.ScfIf o s h = refl
-kind-stands Low op.ScfParallel o s h = refl
-kind-stands Low op.ScfReduce o s h = refl
-kind-stands Low op.ScfWhile o s h = refl
-kind-stands Low op.ScfYield o s h = refl
-kind-stands Low op.AioTryCall o s h = refl
-kind-stands Low _ o s h = absurd h
+kind-stands level kd o s h =
+    same-kind kd (kind_among (kinds_at level) (name_of kd))
+    (body_kind (λ k. is_same k (kind_among (kinds_at level) (name_of k))) level (subst (λ ks. list_all (λ k. is_same k (kind_among (kinds_at level) (name_of k))) ks ≡ true) (sym (kinds-are level)) (all-found level)) kd (both (not (is_other (row_of kd).form)) (stands_at kd level) (has-form (row_of kd).form o h) s))

@@ -40,11 +40,6 @@ pub lines_longer : (xs : List Entry) → length xs ≤ length (journal_lines xs)
 lines_longer [] = omega arith
 lines_longer (x ∷ xs) = let rest = lines_longer xs in simp length-append (omega arith)
 
-pub few_lines : (bytes rest : List ℕ) (es : List Entry) → bytes ≡ journal_lines es ++ rest → length es + length rest ≤ length bytes
-few_lines bytes rest es is =
-    let counted : length bytes ≡ length (journal_lines es) + length rest = rw is (length-append (journal_lines es) rest) in
-    omega (arith, lines_longer es)
-
 pub shorter : (bytes rest : List ℕ) (e : Entry) → bytes ≡ entry_line e ++ rest → length rest < length bytes
 shorter bytes rest e is =
     let counted : length bytes ≡ length (entry_line e) + length rest = rw is (length-append (entry_line e) rest) in

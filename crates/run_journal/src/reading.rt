@@ -12,9 +12,8 @@ use std::str;
 /// # Errors
 ///
 /// `BadLine` with the first line, from 1, that isn't an entry: two numbers below 2^32, in decimal without
-/// leading zeros, with one blank between. `OutOfMemory` where memory runs out.
+/// leading zeros, with one blank between. `OutOfMemory` where memory runs out, and where a line follows 2^32 - 1 entries.
 pub fn read_journal(alloc: Global, bytes: &[u8]) -> Result<Vec<Entry>, JournalFault>
-    requires { length bytes.now < 2 ^ 32 }
     ensures ok { IfOk result (λ entries. bytes.now ≡ journal_lines entries.items) }
     ensures fits { IfOk result (λ entries. AreEntries entries.items) }
     ensures fault { IfErr result (λ fault. HasFault bytes.now fault) }
@@ -22,6 +21,9 @@ pub fn read_journal(alloc: Global, bytes: &[u8]) -> Result<Vec<Entry>, JournalFa
     let mut entries = Vec::new(alloc);
     let mut rest = bytes;
     while !rest.is_empty() {
+        if entries.len() >= u32::MAX as usize {
+            return Err(JournalFault::OutOfMemory);
+        }
         let Some((entry, after)) = split_entry(rest) else {
             return Err(JournalFault::BadLine {
                 line: entries.len() as u32 + 1,

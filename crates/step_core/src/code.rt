@@ -11,7 +11,7 @@ use std::alloc::{AllocError, Global};
 
 /// A row that works on its own task's registers alone: a constant of 64 bits, or a sum that wraps
 /// at 64 bits.
-#[derive(Clone, Copy, PartialEq, Eq, Debug)]
+#[derive(Clone, Copy, PartialEq, Eq)]
 pub enum LocalRow {
     Constant { to: u32, bits: u64 },
     Add { to: u32, left: u32, right: u32 },
@@ -19,7 +19,7 @@ pub enum LocalRow {
 
 /// A row of the function's body. A launch names a region of the code by its place, and an await the
 /// register that holds a token.
-#[derive(Debug, Drop)]
+#[derive(Drop)]
 pub enum RootRow {
     Local(LocalRow),
     Launch { to: u32, region: usize },
@@ -29,7 +29,7 @@ pub enum RootRow {
 
 /// The rows of a function's body, and those of each region that it launches. Behind a region's last
 /// row stands the end of its task.
-#[derive(Debug, Drop)]
+#[derive(Drop)]
 pub struct Straight {
     pub(crate) root: Items<RootRow>,
     pub(crate) regions: Items<Items<LocalRow>>,

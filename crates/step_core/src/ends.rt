@@ -2,7 +2,7 @@ use ir_forms::{Buffer, Out};
 use lists::Items;
 
 /// The end of a run's root: what it returned, or the number of the operation that failed.
-#[derive(PartialEq, Debug, Drop)]
+#[derive(PartialEq, Drop)]
 pub enum End {
     Done {
         results: Items<Out>,
@@ -30,7 +30,7 @@ pub struct Entry {
 
 /// The answer of a step. At `NotReady` the task isn't there or is parked, or what its next row needs
 /// doesn't hold.
-#[derive(Clone, Copy, PartialEq, Eq, Debug)]
+#[derive(Clone, Copy, PartialEq, Eq)]
 pub enum Step {
     Stepped,
     NotReady,

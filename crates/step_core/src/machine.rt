@@ -18,7 +18,7 @@ use std::alloc::{AllocError, Global};
 use std::marker::Model;
 
 /// A run of straight code: its tasks, the tokens that they wait for, and the root's end.
-#[derive(Debug, Drop)]
+#[derive(Drop)]
 pub struct Core<'a> {
     code: &'a Straight,
     tasks: Vec<Option<Task>>,

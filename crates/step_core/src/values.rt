@@ -6,7 +6,7 @@ use std::alloc::{AllocError, Global};
 use std::marker::Model;
 
 /// What a register holds.
-#[derive(Clone, Copy, PartialEq, Eq, Debug)]
+#[derive(Clone, Copy, PartialEq, Eq)]
 pub enum Val {
     Number(u64),
     Object(ObjNo),
@@ -25,7 +25,7 @@ impl Val {
 }
 
 /// The registers of a task, by number. One that was given no value reads as the number 0.
-#[derive(Debug, Drop)]
+#[derive(Drop)]
 pub struct Registers {
     values: Vec<Val>,
 }

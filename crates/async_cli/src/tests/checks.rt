@@ -751,3 +751,45 @@ fn reads_the_ends_of_texts(rt: HostRuntime) -> Result<(), Fail> {
     }
     Ok(())
 }
+
+#[test]
+fn names_the_value_that_passes_the_limit(rt: HostRuntime) -> Result<(), Fail> {
+    let rows: [(&[u8], &[u8]); 8] = [
+        (
+            b"func.func @f() { %a:1048577 = func.call @g() : () -> () return }",
+            b"refused: Limit Values at byte 17",
+        ),
+        (
+            b"func.func @f() { %a:99999999999999999999 = func.call @g() : () -> () return }",
+            b"refused: Limit Values at byte 17",
+        ),
+        (
+            b"func.func @f(%a: i64) { %z:1048574 = func.call @g() : () -> () return %a, %a }",
+            b"refused: Limit Values at byte 74",
+        ),
+        (
+            b"func.func @f(%a: i64) { %z:1048574 = func.call @g() : () -> () return %a, %a, }",
+            b"refused: Limit Values at byte 74",
+        ),
+        (
+            b"func.func @f(%a: i64) { %z:1048574 = func.call @g() : () -> () return %a, %a : f32 }",
+            b"refused: Limit Values at byte 74",
+        ),
+        (
+            b"func.func @f(%a: i64) { %z:1048573 = func.call @g() : () -> () return %a, %a }",
+            b"refused: Syntax at byte 77",
+        ),
+        (
+            b"func.func @f(%a: i64) { %a:1048577 = func.call @g() : () -> () return }",
+            b"refused: Limit Values at byte 24",
+        ),
+        (
+            b"func.func @f(%a: i64) { %a:1048575 = func.call @g() : () -> () return }",
+            b"refused: Syntax at byte 24",
+        ),
+    ];
+    for (text, told) in rows {
+        assert!(rt; checks(rt.alloc(), text, told)?);
+    }
+    Ok(())
+}

@@ -1,4 +1,4 @@
-use Rattle.std.proofs.Common.{arith, ap, ◌∙◌, inr, rules}
+use Rattle.std.proofs.Common.{arith, ap, ◌∙◌, inr, rules, length}
 use Rattle.step_core.specs.Journal.{replay}
 use Rattle.async_cli.specs.Held.{IsUnfinished}
 use Rattle.async_cli.proofs.Stuck.{when_true, when_false}
@@ -15,7 +15,7 @@ pub returns-then-not-branch-clause-outcome : goal.returns-then-not-branch-clause
 returns-then-not-branch-clause-outcome c =
     let held = when_false _ _ c.in_ok-take_turn.field-0 c.in_ok-take_turn.ensures.taken c.if-not-branch.true in
     let unfinished : IsUnfinished c.loop-taken.core = λ f. search rules in
-    (c.loop-taken.core, (ap (λ l. replay l c.args.core.now) held.1 ∙ c.loop-taken.invariant.replayed, (unfinished, (c.left-parked.ensures, inr (c.in-Some.next.0, held.0)))))
+    (c.loop-taken.core, (ap (λ l. replay l c.args.core.now) held.1 ∙ c.loop-taken.invariant.replayed, (unfinished, (c.left-parked.ensures, (inr (c.in-Some.next.0, held.0), omega (arith, ap length held.1, c.loop-taken.invariant.count, c.loop-taken-test.true))))))
 
 pub returns-in-Err-clause-err : goal.returns-in-Err-clause-err
 returns-in-Err-clause-err c =

@@ -1,4 +1,5 @@
 use Rattle.std.proofs.Common.{arith}
+use Rattle.async_cli.specs.Words.{seen}
 use Rattle.async_cli.specs.Replays.{ReplayCauses}
 use Rattle.async_cli.proofs.Telling.{is_given, replayed}
 use Rattle.async_cli.proofs.replays.tell_replay.Goals as goal
@@ -17,7 +18,7 @@ returns-in-Err-read_code g c =
 
 pub returns-in-Ok-read_entries : goal.returns-in-Ok-read_entries
 returns-in-Ok-read_entries g c =
-    replayed _ c.args.flags _ _ c.in-Ok-read_code.code c.in-Ok-read_entries.entries.items _ c.replay_entries.result
+    replayed _ (seen c.args.asked) _ _ c.in-Ok-read_code.code c.in-Ok-read_entries.entries.items _ c.replay_entries.result
     (is_given _ _ _ _ _ c.in-Ok.ensures c.deref.ensures.value c.split_input.ensures)
     (omega (arith, c.if-text.false)) c.in-Ok-read_code.ensures c.in-Ok-read_entries.ensures.0 c.as_slice.ensures.value c.replay_entries.ensures
 

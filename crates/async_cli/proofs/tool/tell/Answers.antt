@@ -1,14 +1,13 @@
-use Rattle.std.proofs.Common.{sym}
-use Rattle.async_cli.specs.Tools.{ToolOwes}
-use Rattle.async_cli.proofs.Telling.{check_owed, replay_owed}
+use Rattle.std.proofs.Common.{◌≡◌, Some, None, option_map, sym, ap, ◌∙◌}
+use Rattle.async_cli.specs.Words.{seen}
+use Rattle.async_cli.proofs.Telling.{served, refused}
 use Rattle.async_cli.proofs.tool.tell.Goals as goal
 
 pub returns-in-Some : goal.returns-in-Some
-returns-in-Some g c = check_owed _ c.in-Some.field-0 c.tell_check.result (sym c.in-Some.ensures) c.tell_check.ensures
+returns-in-Some g c = λ words same.
+    let is : c.args.asked ≡ Some c.in-Some.asked = cc c.in-Some.is in
+    served _ (seen c.in-Some.asked) c.serve.result (ap (option_map seen) (sym is) ∙ same) c.serve.ensures
 
-pub returns-in-Some-read_flags : goal.returns-in-Some-read_flags
-returns-in-Some-read_flags g c =
-    replay_owed _ c.in-Some-read_flags.flags c.tell_replay.result (sym c.in-Some-read_flags.ensures) c.tell_replay.ensures
-
-pub returns-in-None-read_flags : goal.returns-in-None-read_flags
-returns-in-None-read_flags g c = ToolOwes.words (sym c.in-None.ensures, sym c.in-None-read_flags.ensures)
+pub returns-in-None : goal.returns-in-None
+returns-in-None g c = λ words same.
+    let is : c.args.asked ≡ None = cc c.in-None.is in refused _ (ap (option_map seen) (sym is) ∙ same)

@@ -1,9 +1,10 @@
 -- The latest level, with one region, and one operation, more.
+use Rattle.std.proofs.Common.{ap}
 use Rattle.ir_verify.proofs.KindLemmas.{op_begins, region_begins, held_next, along_next}
 use Rattle.ir_verify.proofs.level.+levels.Goals as goal
 
 pub level_at-loop-region-init : goal.level_at-loop-region-init
-level_at-loop-region-init t c = op_begins c.args.op.now c.as_slice-region-items.result.now c.args.level c.row.result.level c.later-latest.result c.row.ensures.level c.later-latest.ensures c.as_slice-region-items.ensures
+level_at-loop-region-init t c = op_begins c.args.op.now c.as_slice-region-items.result.now c.args.level c.row.result.level c.later-latest.result (ap (λ r. r.level) c.row.ensures) c.later-latest.ensures c.as_slice-region-items.ensures
 
 pub level_at-loop-region-preserved : goal.level_at-loop-region-preserved
 level_at-loop-region-preserved t c =

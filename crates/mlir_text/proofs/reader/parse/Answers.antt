@@ -1,4 +1,4 @@
-use Rattle.std.proofs.Common.{◌≡◌, sym, ap, ◌∙◌, subst}
+use Rattle.std.proofs.Common.{sym, ap, ◌∙◌, subst}
 use Rattle.module_grammar.specs.Faults.{parsed}
 use Rattle.mlir_text.specs.Tokens.{toks_of}
 use Rattle.mlir_text.specs.Texts.{IsParsed}

@@ -1,21 +1,12 @@
 -- The bytes are the lines of the entries so far and the rest; a rest that begins with no entry's line is the bad line.
 use Rattle.std.proofs.Common.{◌<◌, length, arith}
 use Rattle.std.proofs.lemmas.Bool.Decides.{nat_tests}
-use Rattle.run_journal.proofs.LineLemmas.{few_lines, one_more_line, bad_line, are_append}
+use Rattle.run_journal.proofs.LineLemmas.{one_more_line, bad_line, are_append}
 use Rattle.run_journal.proofs.reading.read_journal.Goals as goal
-
-pub overflow_cast-result : goal.overflow_cast-result
-overflow_cast-result c =
-    omega (arith, few_lines c.args.bytes.now c.loop-rest.rest.now c.loop-rest.entries.items c.loop-rest.invariant.0)
-
-pub overflow_add-result : goal.overflow_add-result
-overflow_add-result c =
-    let left : 0 < length c.loop-rest.rest.now = grind (arith, nat_tests, c.loop-rest-test.ensures) in
-    omega (arith, few_lines c.args.bytes.now c.loop-rest.rest.now c.loop-rest.entries.items c.loop-rest.invariant.0)
 
 pub returns-in_default-clause-fault : goal.returns-in_default-clause-fault
 returns-in_default-clause-fault c =
-    bad_line c.args.bytes.now c.loop-rest.rest.now c.loop-rest.entries.items c.len.result
+    bad_line c.args.bytes.now c.loop-rest.rest.now c.loop-rest.entries.items c.len-in_default.result
     c.loop-rest.invariant.0 c.loop-rest.invariant.1 (grind (arith, nat_tests, c.loop-rest-test.ensures))
     c.in_default.ensures (omega arith)
 

@@ -12,15 +12,15 @@ bounds-self-middle g c = let p = c.args.self.now in omega (arith, p.full, c.loop
 
 pub loop-low-preserved-in-Less : goal.loop-low-preserved-in-Less
 loop-low-preserved-in-Less g c = let p = c.args.self.now in
-    halved_above name_of AioCall p.kinds.now p.ascending c.args.name.now c.loop-low.low c.loop-low.high (c.loop-low.low + (c.loop-low.high - c.loop-low.low) / 2) c.loop-low.invariant (omega arith) (sym (ap (λ n. compared n c.args.name.now) c.row.ensures.name) ∙ sym c.cmp.ensures ∙ c.in-Less.is)
+    halved_above name_of AioCall p.kinds.now p.ascending c.args.name.now c.loop-low.low c.loop-low.high (c.loop-low.low + (c.loop-low.high - c.loop-low.low) / 2) c.loop-low.invariant (omega arith) (sym (ap (λ r. compared r.name c.args.name.now) c.row.ensures) ∙ sym c.cmp.ensures ∙ c.in-Less.is)
 
 pub loop-low-preserved : goal.loop-low-preserved
 loop-low-preserved g c = let p = c.args.self.now in
-    halved_below name_of AioCall p.kinds.now p.ascending c.args.name.now c.loop-low.low c.loop-low.high (c.loop-low.low + (c.loop-low.high - c.loop-low.low) / 2) c.loop-low.invariant (omega arith) (sym (ap (λ n. compared n c.args.name.now) c.row.ensures.name) ∙ sym c.cmp.ensures ∙ c.in-Greater.is)
+    halved_below name_of AioCall p.kinds.now p.ascending c.args.name.now c.loop-low.low c.loop-low.high (c.loop-low.low + (c.loop-low.high - c.loop-low.low) / 2) c.loop-low.invariant (omega arith) (sym (ap (λ r. compared r.name c.args.name.now) c.row.ensures) ∙ sym c.cmp.ensures ∙ c.in-Greater.is)
 
 pub returns-in-Equal : goal.returns-in-Equal
 returns-in-Equal g c = let p = c.args.self.now in
-    sym (found_here name_of AioCall p.kinds.now p.ascending c.args.name.now c.loop-low.low c.loop-low.high (c.loop-low.low + (c.loop-low.high - c.loop-low.low) / 2) c.loop-low.invariant (omega arith) (sym (ap (λ n. compared n c.args.name.now) c.row.ensures.name) ∙ sym c.cmp.ensures ∙ c.in-Equal.is))
+    sym (found_here name_of AioCall p.kinds.now p.ascending c.args.name.now c.loop-low.low c.loop-low.high (c.loop-low.low + (c.loop-low.high - c.loop-low.low) / 2) c.loop-low.invariant (omega arith) (sym (ap (λ r. compared r.name c.args.name.now) c.row.ensures) ∙ sym c.cmp.ensures ∙ c.in-Equal.is))
 
 pub returns : goal.returns
 returns g c = let p = c.args.self.now in

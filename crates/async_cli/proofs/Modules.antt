@@ -1,0 +1,247 @@
+-- A text gives one module that breaks no rule, or one cause why it gives none; and so with the entry of a name.
+use Rattle.std.proofs.Common.{◌≡◌, ◌<◌, ℕ, List, Bool, true, false, if◌then◌else◌, ◌==◌, Option, Some, None, Result, Ok, Err, slice_get, refl, sym, ap, subst, ◌∙◌, inl, inr, arith}
+use Rattle.std.proofs.lemmas.Bool.{cases_order}
+use Rattle.ir_forms.specs.declared.ops.Func.{Func}
+use Rattle.ir_forms.specs.declared.ops.Module.{Module}
+use Rattle.ir_forms.specs.declared.runs.FuncNo.{FuncNo}
+use Rattle.ir_forms.specs.Numbers.{renumbered}
+use Rattle.op_table.specs.declared.rows.Level.TheVariants.{Source}
+use Rattle.mlir_text.specs.declared.fault.TextFault.{TextFault}
+use Rattle.mlir_text.specs.declared.fault.TextFault.TheVariants as text
+use Rattle.mlir_text.specs.Texts.{IsRefused, OneAnswer}
+use Rattle.ir_verify.specs.declared.entry.EntryFault.{EntryFault}
+use Rattle.ir_verify.specs.declared.entry.EntryFault.TheVariants as entry_fault
+use Rattle.ir_verify.specs.declared.fault.Broken.{Broken}
+use Rattle.ir_verify.specs.declared.fault.VerifyKind.{VerifyKind}
+use Rattle.ir_verify.specs.declared.fault.VerifyKind.TheVariants as kinds
+use Rattle.ir_verify.specs.Faults.{rank, is_before}
+use Rattle.ir_verify.specs.Verdict.{IsFirst}
+use Rattle.mlir_text.specs.declared.reader.TheConstants.{PROGRAM_LIMITS}
+use Rattle.async_cli.specs.declared.stops.Stop.{Stop}
+use Rattle.async_cli.specs.declared.stops.Stop.TheVariants as stop
+use Rattle.async_cli.specs.declared.stops.ModuleFault.{ModuleFault}
+use Rattle.async_cli.specs.declared.stops.ModuleFault.TheVariants.{Text, Verify}
+use Rattle.async_cli.specs.Answers.{ReadsModule, IsAccepted, ModuleStops, entry_of, IsEntry, HasEntry, EntryStops, TextStops}
+use Rattle.async_cli.specs.Laws.{is_decided}
+use Rattle.async_cli.specs.NotYet.{first_not_yet}
+
+-- ---- the module that is read
+
+one_read : OneAnswer → (bytes : List ℕ) (p q : Module) → ReadsModule bytes p → ReadsModule bytes q → p ≡ q
+one_read law bytes p q a b =
+    elim (law PROGRAM_LIMITS Source bytes (Ok a.0) (Ok b.0) a.1.0 b.1.0) [
+      | inl e ↦ absurd (cc e)
+      | inr rest ↦ elim rest [
+        | inl e ↦ absurd (cc e)
+        | inr e ↦ let same : a.0 ≡ b.0 = cc e in a.1.1 ∙ ap renumbered same ∙ sym b.1.1
+      ]
+    ]
+
+text_why : (bytes : List ℕ) (f : TextFault) → ModuleStops bytes (stop.Module (Text f)) →
+    (f ≡ text.OutOfMemory → ⊥) × IsRefused PROGRAM_LIMITS Source bytes f
+text_why bytes (text.Lex fault) why = (λ e. cc e, why)
+text_why bytes (text.Syntax at) why = (λ e. cc e, why)
+text_why bytes (text.UnknownOp at) why = (λ e. cc e, why)
+text_why bytes (text.UnknownType at) why = (λ e. cc e, why)
+text_why bytes (text.WideNumber at) why = (λ e. cc e, why)
+text_why bytes (text.Limit which at) why = (λ e. cc e, why)
+text_why bytes text.OutOfMemory why = absurd why
+
+one_fault : OneAnswer → (bytes : List ℕ) (f g : TextFault) → ModuleStops bytes (stop.Module (Text f)) →
+    ModuleStops bytes (stop.Module (Text g)) → f ≡ g
+one_fault law bytes f g a b =
+    let first = text_why bytes f a in
+    let second = text_why bytes g b in
+    elim (law PROGRAM_LIMITS Source bytes (Err f) (Err g) first.1 second.1) [
+      | inl e ↦ absurd (first.0 (cc e))
+      | inr rest ↦ elim rest [ inl e ↦ absurd (second.0 (cc e)) | inr e ↦ cc e ]
+    ]
+
+no_fault : OneAnswer → (bytes : List ℕ) (p : Module) (f : TextFault) → ReadsModule bytes p → ModuleStops bytes (stop.Module (Text f)) → ⊥
+no_fault law bytes p f a b =
+    let second = text_why bytes f b in
+    elim (law PROGRAM_LIMITS Source bytes (Ok a.0) (Err f) a.1.0 second.1) [
+      | inl e ↦ cc e
+      | inr rest ↦ elim rest [ inl e ↦ second.0 (cc e) | inr e ↦ cc e ]
+    ]
+
+-- ---- the first rule that is broken
+
+abbrev kind_at : ℕ → VerifyKind
+kind_at n =
+    if n == 0 then kinds.Undefined
+    else (if n == 1 then kinds.TypeMismatch
+    else (if n == 2 then kinds.Terminator
+    else (if n == 3 then kinds.UnknownFunc
+    else (if n == 4 then kinds.Arity
+    else (if n == 5 then kinds.AsyncInMemref
+    else kinds.BlockingAwait)))))
+
+kind_of_rank : (k : VerifyKind) → kind_at (rank k) ≡ k
+kind_of_rank kinds.Undefined = refl
+kind_of_rank kinds.TypeMismatch = refl
+kind_of_rank kinds.Terminator = refl
+kind_of_rank kinds.UnknownFunc = refl
+kind_of_rank kinds.Arity = refl
+kind_of_rank kinds.AsyncInMemref = refl
+kind_of_rank kinds.BlockingAwait = refl
+
+before_by_op : (b c : Broken) → b.op < c.op → is_before b c ≡ true
+before_by_op b c less = grind (arith)
+
+before_by_kind : (b c : Broken) → b.op ≡ c.op → rank b.kind < rank c.kind → is_before b c ≡ true
+before_by_kind b c same less = grind (arith)
+
+not_both : (x : Bool) → x ≡ true → x ≡ false → ⊥
+not_both x holds fails = let both : true ≡ false = sym holds ∙ fails in cc both
+
+abbrev broken : ℕ → VerifyKind → Broken
+broken op kind = record { op = op; kind = kind }
+
+same_broken : (b c : Broken) → b.op ≡ c.op → b.kind ≡ c.kind → b ≡ c
+same_broken b c ops kinds_are = ap (λ n. broken n b.kind) ops ∙ ap (broken c.op) kinds_are
+
+one_first : (funcs : List Func) (b c : Broken) → IsFirst funcs b → IsFirst funcs c → b ≡ c
+one_first funcs b c first second =
+    elim (cases_order b.op c.op) [
+      | inl same ↦ elim (cases_order (rank b.kind) (rank c.kind)) [
+        | inl ranks ↦
+            let alike : b.kind ≡ c.kind = sym (kind_of_rank b.kind) ∙ ap kind_at ranks ∙ kind_of_rank c.kind in same_broken b c same alike
+        | inr differs ↦ elim differs [
+          | inl below ↦ absurd (not_both _ (before_by_kind b c same below) (second.none_before b first.broken))
+          | inr above ↦ absurd (not_both _ (before_by_kind c b (sym same) above) (first.none_before c second.broken))
+        ]
+      ]
+      | inr differs ↦ elim differs [
+        | inl below ↦ absurd (not_both _ (before_by_op b c below) (second.none_before b first.broken))
+        | inr above ↦ absurd (not_both _ (before_by_op c b above) (first.none_before c second.broken))
+      ]
+    ]
+
+-- ---- a text's module
+
+-- a decided cause why a text gives no module is a fault of it
+module_why : (bytes : List ℕ) (s : Stop) → is_decided s ≡ true → ModuleStops bytes s → (f : ModuleFault) × (s ≡ stop.Module f)
+module_why bytes (stop.Module fault) decided why = (fault, refl)
+module_why bytes stop.OutOfMemory decided why = absurd (cc decided)
+module_why bytes stop.Words decided why = absurd why
+module_why bytes stop.Read decided why = absurd why
+module_why bytes (stop.TooLong limit) decided why = absurd why
+module_why bytes stop.NoEntry decided why = absurd why
+module_why bytes (stop.EntryType op) decided why = absurd why
+module_why bytes (stop.NotYet op) decided why = absurd why
+module_why bytes (stop.Short parked) decided why = absurd why
+module_why bytes (stop.Spent entries) decided why = absurd why
+module_why bytes (stop.Write written) decided why = absurd why
+
+faults_alike : OneAnswer → (bytes : List ℕ) (f g : ModuleFault) → ModuleStops bytes (stop.Module f) → ModuleStops bytes (stop.Module g) → f ≡ g
+faults_alike law bytes (Text f) (Text g) a b = ap Text (one_fault law bytes f g a b)
+faults_alike law bytes (Text f) (Verify op kind) a b = absurd (no_fault law bytes b.0 f b.1.0 a)
+faults_alike law bytes (Verify op kind) (Text g) a b = absurd (no_fault law bytes a.0 g a.1.0 b)
+faults_alike law bytes (Verify op kind) (Verify on also) a b =
+    let same : b.0 ≡ a.0 = one_read law bytes b.0 a.0 b.1.0 a.1.0 in
+    let second : IsFirst a.0.funcs (record { op = on; kind = also }) =
+    subst (λ (m : Module). IsFirst m.funcs (record { op = on; kind = also })) same b.1.1 in
+    let one = one_first a.0.funcs (record { op = op; kind = kind }) (record { op = on; kind = also }) a.1.1 second in
+    let ops : op ≡ on = ap (λ (b : Broken). b.op) one in
+    let kinds_are : kind ≡ also = ap (λ (b : Broken). b.kind) one in
+    cc
+
+pub stops_alike : OneAnswer → (bytes : List ℕ) (s t : Stop) → is_decided s ≡ true → is_decided t ≡ true → ModuleStops bytes s →
+    ModuleStops bytes t → s ≡ t
+stops_alike law bytes s t s_is t_is a b =
+    let first = module_why bytes s s_is a in
+    let second = module_why bytes t t_is b in
+    first.1
+    ∙ ap stop.Module (faults_alike law bytes first.0 second.0 (subst (ModuleStops bytes) first.1 a) (subst (ModuleStops bytes) second.1 b))
+    ∙ sym second.1
+
+accepted_fault : OneAnswer → (bytes : List ℕ) (p : Module) (f : ModuleFault) → IsAccepted bytes p → ModuleStops bytes (stop.Module f) → ⊥
+accepted_fault law bytes p (Text f) a b = no_fault law bytes p f a.0 b
+accepted_fault law bytes p (Verify op kind) a b =
+    let same : b.0 ≡ p = one_read law bytes b.0 p b.1.0 a.0 in
+    a.1 (record { op = op; kind = kind }) (subst (λ (m : Module). IsFirst m.funcs (record { op = op; kind = kind })) same b.1.1).broken
+
+-- an accepted text isn't refused
+pub accepted_stays : OneAnswer → (bytes : List ℕ) (p : Module) (s : Stop) → is_decided s ≡ true → IsAccepted bytes p → ModuleStops bytes s → ⊥
+accepted_stays law bytes p s s_is a b =
+    let why = module_why bytes s s_is b in accepted_fault law bytes p why.0 a (subst (ModuleStops bytes) why.1 b)
+
+pub one_accepted : OneAnswer → (bytes : List ℕ) (p q : Module) → IsAccepted bytes p → IsAccepted bytes q → p ≡ q
+one_accepted law bytes p q a b = one_read law bytes p q a.0 b.0
+
+-- ---- the entry
+
+-- why a module has no entry of a name that can be run
+abbrev not_yet : Option ℕ → Option Stop
+not_yet None = None
+not_yet (Some op) = Some (stop.NotYet op)
+
+abbrev entry_stop : Result FuncNo EntryFault → Option ℕ → Option Stop
+entry_stop (Err entry_fault.NoEntry) op = Some stop.NoEntry
+entry_stop (Err (entry_fault.EntryType at)) op = Some (stop.EntryType at)
+entry_stop (Ok number) op = not_yet op
+
+entry_why : (p : Module) (name : List ℕ) (s : Stop) → is_decided s ≡ true → EntryStops p name s →
+    entry_stop (entry_of p name) (first_not_yet p) ≡ Some s
+entry_why p name stop.NoEntry decided why = ap (λ e. entry_stop e (first_not_yet p)) why
+entry_why p name (stop.EntryType op) decided why = ap (λ e. entry_stop e (first_not_yet p)) why
+entry_why p name (stop.NotYet op) decided why = ap (λ e. entry_stop e (first_not_yet p)) why.0.1 ∙ ap not_yet why.1
+entry_why p name stop.OutOfMemory decided why = absurd (cc decided)
+entry_why p name stop.Words decided why = absurd why
+entry_why p name stop.Read decided why = absurd why
+entry_why p name (stop.TooLong limit) decided why = absurd why
+entry_why p name (stop.Module fault) decided why = absurd why
+entry_why p name (stop.Short parked) decided why = absurd why
+entry_why p name (stop.Spent entries) decided why = absurd why
+entry_why p name (stop.Write written) decided why = absurd why
+
+entry_runs : (p : Module) (name : List ℕ) (f : Func) → IsEntry p name f → entry_stop (entry_of p name) (first_not_yet p) ≡ None
+entry_runs p name f is = ap (λ e. entry_stop e (first_not_yet p)) is.found ∙ ap not_yet is.runs
+
+one_func : (p : Module) (name : List ℕ) (f g : Func) → IsEntry p name f → IsEntry p name g → f ≡ g
+one_func p name f g a b =
+    let numbers : a.number ≡ b.number = (let both : Ok a.number ≡ Ok b.number = sym a.found ∙ b.found in cc both) in
+    let both : Some f ≡ Some g = sym a.is ∙ ap (λ (n : FuncNo). slice_get p.funcs n.0) numbers ∙ b.is in
+    cc both
+
+-- what a text and a name give
+abbrev pub EntryGives : List ℕ → List ℕ → Result Func Stop → Type 0
+EntryGives bytes name (Ok f) = HasEntry bytes name f
+EntryGives bytes name (Err s) = (is_decided s ≡ true) × TextStops bytes name s
+
+entry_not_stopped : OneAnswer → (bytes name : List ℕ) (f : Func) (s : Stop) → HasEntry bytes name f → is_decided s ≡ true →
+    TextStops bytes name s → ⊥
+entry_not_stopped law bytes name f s a s_is b =
+    elim b [
+      | inl why ↦ accepted_stays law bytes a.0 s s_is a.1.0 why
+      | inr why ↦
+          let same : why.0 ≡ a.0 = one_accepted law bytes why.0 a.0 why.1.0 a.1.0 in
+          let stopped = entry_why a.0 name s s_is (subst (λ m. EntryStops m name s) same why.1.1) in
+          let both : None ≡ Some s = sym (entry_runs a.0 name f a.1.1) ∙ stopped in
+          cc both
+    ]
+
+pub entries_alike : OneAnswer → (bytes name : List ℕ) (r q : Result Func Stop) → EntryGives bytes name r → EntryGives bytes name q → r ≡ q
+entries_alike law bytes name (Ok f) (Ok g) a b =
+    let same : b.0 ≡ a.0 = one_accepted law bytes b.0 a.0 b.1.0 a.1.0 in
+    ap Ok (one_func a.0 name f g a.1.1 (subst (λ m. IsEntry m name g) same b.1.1))
+entries_alike law bytes name (Ok f) (Err s) a b = absurd (entry_not_stopped law bytes name f s a b.0 b.1)
+entries_alike law bytes name (Err s) (Ok f) a b = absurd (entry_not_stopped law bytes name f s b a.0 a.1)
+entries_alike law bytes name (Err s) (Err t) a b =
+    elim a.1 [
+      | inl why ↦ elim b.1 [
+        | inl also ↦ ap Err (stops_alike law bytes s t a.0 b.0 why also)
+        | inr also ↦ absurd (accepted_stays law bytes also.0 s a.0 also.1.0 why)
+      ]
+      | inr why ↦ elim b.1 [
+        | inl also ↦ absurd (accepted_stays law bytes why.0 t b.0 why.1.0 also)
+        | inr also ↦
+            let same : also.0 ≡ why.0 = one_accepted law bytes also.0 why.0 also.1.0 why.1.0 in
+            let first = entry_why why.0 name s a.0 why.1.1 in
+            let second = entry_why why.0 name t b.0 (subst (λ m. EntryStops m name t) same also.1.1) in
+            let both : Some s ≡ Some t = sym first ∙ second in
+            let stops : s ≡ t = cc both in
+            ap Err stops
+      ]
+    ]

@@ -1,0 +1,470 @@
+-- What `tool` owes is a function of what is given, by the stages of each command.
+use Rattle.std.proofs.Common.{◌≡◌, ◌≤◌, ◌<◌, ◌⊎◌, ◌+◌, ◌&&◌, ℕ, List, [], length, take, drop, Bool, true, false, nat_le, Option, Some, None, IsSome, MatchOption, Result, Ok, Err, refl, sym, ap, subst, ◌∙◌, inl, inr, arith}
+use Rattle.std.proofs.lemmas.Bool.{cases_order}
+use Rattle.aio_base.specs.Whole.{Told}
+use Rattle.ir_forms.specs.declared.ops.Func.{Func}
+use Rattle.ir_forms.specs.declared.ops.Module.{Module}
+use Rattle.mlir_text.specs.Texts.{OneAnswer}
+use Rattle.step_core.specs.declared.ends.Entry.{Entry}
+use Rattle.step_core.specs.Code.{straight_of}
+use Rattle.step_core.specs.State.{State, start_state, IsFinished}
+use Rattle.run_journal.specs.declared.faults.TaskLook.{TaskLook}
+use Rattle.run_journal.specs.Laws.{OneJournal, OneBadLine, NoJournalWithBadLine, ReplayedOrNamed}
+use Rattle.run_journal.specs.Lines.{journal_lines, IsFirstBadLine}
+use Rattle.run_journal.specs.Replay.{first_fault}
+use Rattle.async_cli.specs.declared.stops.Stop.{Stop}
+use Rattle.async_cli.specs.declared.stops.Stop.TheVariants as stop
+use Rattle.async_cli.specs.declared.tool_stops.ToolStop.{ToolStop}
+use Rattle.async_cli.specs.declared.tool_stops.ToolStop.TheVariants.{Shared, BadLine, NotARun, Unfinished}
+use Rattle.async_cli.specs.declared.words.Command.{Command}
+use Rattle.async_cli.specs.declared.words.Command.TheVariants.{Check, Run, Replay}
+use Rattle.async_cli.specs.Words.{Asked, asked_of}
+use Rattle.async_cli.specs.Answers.{Given, text_limit, IsAccepted, ModuleStops}
+use Rattle.async_cli.specs.Checks.{CheckEnds, CheckCauses, accepted_line}
+use Rattle.async_cli.specs.Held.{IsUnfinished}
+use Rattle.async_cli.specs.Inputs.{input_limit, is_heading, IsSplit}
+use Rattle.async_cli.specs.Laws.{is_decided, IsDecided, ToolOwesOne}
+use Rattle.async_cli.specs.Replays.{IsGiven, AreLines, LineStops, EntryListStops, ReplayCauses, ReplayEnds}
+use Rattle.async_cli.specs.Runs.{LeadsTo, Finishes}
+use Rattle.async_cli.specs.Stops.{tool_status, tool_text}
+use Rattle.async_cli.specs.Tools.{CommandEnds, CommandCauses, ToolOwes}
+use Rattle.async_cli.proofs.Modules.{EntryGives, entries_alike, stops_alike, accepted_stays, one_accepted}
+use Rattle.async_cli.proofs.Alike.{input_gives, input_stops, one_text, one_asked}
+
+-- a cause that what is given decides
+abbrev pub is_decided_cause : ToolStop → Bool
+is_decided_cause (Shared s) = is_decided s
+is_decided_cause (BadLine line) = true
+is_decided_cause (NotARun number named kept) = true
+is_decided_cause (Unfinished entries) = true
+
+-- ---- `check`
+
+-- the bytes are no text of a module that breaks no rule, or the line tells its size
+abbrev ModuleGives : List ℕ → Result (List ℕ) ToolStop → Type 0
+ModuleGives bytes r =
+    ((s : Stop) × ((is_decided s ≡ true) × (ModuleStops bytes s × (r ≡ Err (Shared s)))))
+    ⊎ ((p : Module) × (IsAccepted bytes p × (r ≡ Ok (accepted_line p))))
+
+abbrev CheckGives : List ℕ → Result (List ℕ) ToolStop → Type 0
+CheckGives bytes r =
+    ((text_limit < length bytes) × (r ≡ Err (Shared (stop.TooLong text_limit)))) ⊎ ((length bytes ≤ text_limit) × ModuleGives bytes r)
+
+modules_alike : OneAnswer → (bytes : List ℕ) (r q : Result (List ℕ) ToolStop) → ModuleGives bytes r → ModuleGives bytes q → r ≡ q
+modules_alike law bytes r q a b =
+    elim a [
+      | inl x ↦ elim b [
+        | inl y ↦
+            x.1.1.1 ∙ ap (λ s. Err (Shared s)) (stops_alike law bytes x.0 y.0 x.1.0 y.1.0 x.1.1.0 y.1.1.0) ∙ sym y.1.1.1
+        | inr y ↦ absurd (accepted_stays law bytes y.0 x.0 x.1.0 y.1.0 x.1.1.0)
+      ]
+      | inr x ↦ elim b [
+        | inl y ↦ absurd (accepted_stays law bytes x.0 y.0 y.1.0 x.1.0 y.1.1.0)
+        | inr y ↦ x.1.1 ∙ ap (λ p. Ok (accepted_line p)) (one_accepted law bytes x.0 y.0 x.1.0 y.1.0) ∙ sym y.1.1
+      ]
+    ]
+
+checks_alike : OneAnswer → (bytes : List ℕ) (r q : Result (List ℕ) ToolStop) → CheckGives bytes r → CheckGives bytes q → r ≡ q
+checks_alike law bytes r q a b =
+    elim a [
+      | inl x ↦ elim b [ inl y ↦ x.1 ∙ sym y.1 | inr y ↦ absurd (omega (arith, x.0, y.0)) ]
+      | inr x ↦ elim b [ inl y ↦ absurd (omega (arith, y.0, x.0)) | inr y ↦ modules_alike law bytes r q x.1 y.1 ]
+    ]
+
+check_ends : (source : Told) (bytes text : List ℕ) → source.left ≡ Some bytes → CheckEnds source text → CheckGives bytes (Ok text)
+check_ends source bytes text told ends =
+    let read = input_gives text_limit source bytes ends.bytes told ends.input in
+    inr (read.1, inr (ends.program, (subst (λ b. IsAccepted b ends.program) read.0 ends.accepted, ap Ok ends.told)))
+
+check_stops : (source : Told) (bytes : List ℕ) (cause : ToolStop) → source.left ≡ Some bytes → is_decided_cause cause ≡ true →
+    CheckCauses source cause → CheckGives bytes (Err cause)
+check_stops source bytes _ told decided (CheckCauses.input s why) =
+    let input = input_stops text_limit source bytes s told decided why in inl (input.1, ap (λ s. Err (Shared s)) input.0)
+check_stops source bytes _ told decided (CheckCauses.no_module s all input why) =
+    let read = input_gives text_limit source bytes all told input in
+    inr (read.1, inl (s, (decided, (subst (λ b. ModuleStops b s) read.0 why, refl))))
+
+-- ---- `replay`
+
+-- what the entries of a journal give
+abbrev EntriesGive : Func → Asked → List Entry → Result (List ℕ) ToolStop → Type 0
+EntriesGive f asked entries (Ok text) = Finishes f asked.flags entries text
+EntriesGive f asked entries (Err cause) = (is_decided_cause cause ≡ true) × EntryListStops f entries cause
+
+abbrev LinesGive : Option (List ℕ) → Func → Asked → Result (List ℕ) ToolStop → Type 0
+LinesGive journal f asked r =
+    ((cause : ToolStop) × ((is_decided_cause cause ≡ true) × (LineStops journal cause × (r ≡ Err cause))))
+    ⊎ ((entries : List Entry) × (AreLines journal entries × EntriesGive f asked entries r))
+
+abbrev PartsGive : List ℕ → Option (List ℕ) → Asked → Result (List ℕ) ToolStop → Type 0
+PartsGive text journal asked r =
+    ((s : Stop) × (EntryGives text asked.entry (Err s) × (r ≡ Err (Shared s))))
+    ⊎ ((f : Func) × (EntryGives text asked.entry (Ok f) × LinesGive journal f asked r))
+
+abbrev SplitGives : List ℕ → Option (List ℕ) → Asked → Result (List ℕ) ToolStop → Type 0
+SplitGives text journal asked r =
+    ((text_limit < length text) × (r ≡ Err (Shared (stop.TooLong text_limit)))) ⊎ ((length text ≤ text_limit) × PartsGive text journal asked r)
+
+abbrev ReplayGives : List ℕ → Asked → Result (List ℕ) ToolStop → Type 0
+ReplayGives bytes asked r =
+    ((input_limit < length bytes) × (r ≡ Err (Shared (stop.TooLong input_limit))))
+    ⊎ ((length bytes ≤ input_limit)
+    × ((text : List ℕ) × ((journal : Option (List ℕ)) × (IsSplit bytes text journal × SplitGives text journal asked r))))
+
+-- the laws on journals
+pub record Journals : Type 0 where
+  pub one_journal : OneJournal
+  pub one_bad_line : OneBadLine
+  pub no_bad_line : NoJournalWithBadLine
+  pub named : ReplayedOrNamed
+
+leads_unnamed : ReplayedOrNamed → (f : Func) (entries : List Entry) (s : State) → LeadsTo f entries s →
+    first_fault 0 entries (start_state (straight_of f)) ≡ None
+leads_unnamed law f entries s leads =
+    let start : State = start_state (straight_of f) in
+    subst (λ (o : Option State). MatchOption o (IsSome (first_fault 0 entries start)) (λ after. first_fault 0 entries start ≡ None)) leads
+    (law 0 entries start)
+
+-- why entries are no finished run: one is named, or the run isn't finished
+abbrev EntryWhy : Func → List Entry → ToolStop → Type 0
+EntryWhy f entries cause =
+    ((n : ℕ) × ((named : Entry) × ((kept : Option TaskLook) × ((cause ≡ NotARun n named kept) × EntryListStops f entries (NotARun n named kept)))))
+    ⊎ ((cause ≡ Unfinished (length entries)) × ((s : State) × (LeadsTo f entries s × IsUnfinished s)))
+
+entry_why : (f : Func) (entries : List Entry) (cause : ToolStop) → is_decided_cause cause ≡ true → EntryListStops f entries cause →
+    EntryWhy f entries cause
+entry_why f entries (NotARun n named kept) decided why = inl (n, (named, (kept, (refl, why))))
+entry_why f entries (Unfinished count) decided why = inr (ap Unfinished why.1.1.1, (why.0, (why.1.0, why.1.1.0)))
+entry_why f entries (BadLine line) decided why = absurd why
+entry_why f entries (Shared stop.OutOfMemory) decided why = absurd (cc decided)
+entry_why f entries (Shared stop.Words) decided why = absurd why
+entry_why f entries (Shared stop.Read) decided why = absurd why
+entry_why f entries (Shared (stop.TooLong limit)) decided why = absurd why
+entry_why f entries (Shared (stop.Module fault)) decided why = absurd why
+entry_why f entries (Shared stop.NoEntry) decided why = absurd why
+entry_why f entries (Shared (stop.EntryType op)) decided why = absurd why
+entry_why f entries (Shared (stop.NotYet op)) decided why = absurd why
+entry_why f entries (Shared (stop.Short parked)) decided why = absurd why
+entry_why f entries (Shared (stop.Spent count)) decided why = absurd why
+entry_why f entries (Shared (stop.Write written)) decided why = absurd why
+
+one_state : (f : Func) (entries : List Entry) (s t : State) → LeadsTo f entries s → LeadsTo f entries t → s ≡ t
+one_state f entries s t a b = let both : Some s ≡ Some t = sym a ∙ b in cc both
+
+ends_stay : Journals → (f : Func) (asked : Asked) (entries : List Entry) (text : List ℕ) (cause : ToolStop) →
+    Finishes f asked.flags entries text → EntryWhy f entries cause → ⊥
+ends_stay laws f asked entries text cause ends why =
+    elim why [
+      | inl x ↦ cc (sym (leads_unnamed laws.named f entries ends.state ends.replayed) ∙ x.1.1.1.1)
+      | inr x ↦
+          let same : ends.state ≡ x.1.0 = one_state f entries _ _ ends.replayed x.1.1.0 in
+          x.1.1.1 (subst IsFinished same ends.finished)
+    ]
+
+causes_alike : Journals → (f : Func) (entries : List Entry) (c d : ToolStop) → EntryWhy f entries c → EntryWhy f entries d → c ≡ d
+causes_alike laws f entries c d a b =
+    elim a [
+      | inl x ↦ elim b [
+        | inl y ↦
+            let both = sym x.1.1.1.1 ∙ y.1.1.1.1 in
+            let first : c ≡ NotARun x.0 x.1.0 x.1.1.0 = x.1.1.1.0 in
+            let second : d ≡ NotARun y.0 y.1.0 y.1.1.0 = y.1.1.1.0 in
+            cc
+        | inr y ↦ absurd (cc (sym (leads_unnamed laws.named f entries y.1.0 y.1.1.0) ∙ x.1.1.1.1))
+      ]
+      | inr x ↦ elim b [
+        | inl y ↦ absurd (cc (sym (leads_unnamed laws.named f entries x.1.0 x.1.1.0) ∙ y.1.1.1.1))
+        | inr y ↦ x.0 ∙ sym y.0
+      ]
+    ]
+
+entries_run_alike : Journals → (f : Func) (asked : Asked) (entries : List Entry) (r q : Result (List ℕ) ToolStop) →
+    EntriesGive f asked entries r → EntriesGive f asked entries q → r ≡ q
+entries_run_alike laws f asked entries (Ok t) (Ok u) a b = ap Ok (one_text f asked entries t u a b)
+entries_run_alike laws f asked entries (Ok t) (Err c) a b = absurd (ends_stay laws f asked entries t c a (entry_why f entries c b.0 b.1))
+entries_run_alike laws f asked entries (Err c) (Ok t) a b = absurd (ends_stay laws f asked entries t c b (entry_why f entries c a.0 a.1))
+entries_run_alike laws f asked entries (Err c) (Err d) a b =
+    ap Err (causes_alike laws f entries c d (entry_why f entries c a.0 a.1) (entry_why f entries d b.0 b.1))
+
+-- the first line that is no entry
+abbrev LineWhy : Option (List ℕ) → ToolStop → Type 0
+LineWhy journal cause = (line : ℕ) × ((cause ≡ BadLine line) × LineStops journal (BadLine line))
+
+line_why : (journal : Option (List ℕ)) (cause : ToolStop) → is_decided_cause cause ≡ true → LineStops journal cause → LineWhy journal cause
+line_why None (BadLine line) decided why = (line, (refl, why))
+line_why None (NotARun n named kept) decided why = absurd why
+line_why None (Unfinished count) decided why = absurd why
+line_why None (Shared stop.OutOfMemory) decided why = absurd (cc decided)
+line_why None (Shared stop.Words) decided why = absurd why
+line_why None (Shared stop.Read) decided why = absurd why
+line_why None (Shared (stop.TooLong limit)) decided why = absurd why
+line_why None (Shared (stop.Module fault)) decided why = absurd why
+line_why None (Shared stop.NoEntry) decided why = absurd why
+line_why None (Shared (stop.EntryType op)) decided why = absurd why
+line_why None (Shared (stop.NotYet op)) decided why = absurd why
+line_why None (Shared (stop.Short parked)) decided why = absurd why
+line_why None (Shared (stop.Spent entries)) decided why = absurd why
+line_why None (Shared (stop.Write written)) decided why = absurd why
+line_why (Some lines) (BadLine line) decided why = (line, (refl, why))
+line_why (Some lines) (NotARun n named kept) decided why = absurd why
+line_why (Some lines) (Unfinished count) decided why = absurd why
+line_why (Some lines) (Shared stop.OutOfMemory) decided why = absurd (cc decided)
+line_why (Some lines) (Shared stop.Words) decided why = absurd why
+line_why (Some lines) (Shared stop.Read) decided why = absurd why
+line_why (Some lines) (Shared (stop.TooLong limit)) decided why = absurd why
+line_why (Some lines) (Shared (stop.Module fault)) decided why = absurd why
+line_why (Some lines) (Shared stop.NoEntry) decided why = absurd why
+line_why (Some lines) (Shared (stop.EntryType op)) decided why = absurd why
+line_why (Some lines) (Shared (stop.NotYet op)) decided why = absurd why
+line_why (Some lines) (Shared (stop.Short parked)) decided why = absurd why
+line_why (Some lines) (Shared (stop.Spent entries)) decided why = absurd why
+line_why (Some lines) (Shared (stop.Write written)) decided why = absurd why
+
+one_line : Journals → (journal : Option (List ℕ)) (m n : ℕ) → LineStops journal (BadLine m) → LineStops journal (BadLine n) → m ≡ n
+one_line laws None m n a b = a ∙ sym b
+one_line laws (Some lines) m n a b = laws.one_bad_line lines m n a b
+
+no_line : Journals → (journal : Option (List ℕ)) (entries : List Entry) (n : ℕ) → AreLines journal entries → LineStops journal (BadLine n) → ⊥
+no_line laws None entries n are bad = cc are.0
+no_line laws (Some lines) entries n are bad =
+    let same : lines ≡ journal_lines entries = cc are.0 in
+    laws.no_bad_line entries n are.1 (subst (λ l. IsFirstBadLine l n) same bad)
+
+one_list : Journals → (journal : Option (List ℕ)) (xs ys : List Entry) → AreLines journal xs → AreLines journal ys → xs ≡ ys
+one_list laws journal xs ys a b =
+    let both : Some (journal_lines xs) ≡ Some (journal_lines ys) = sym a.0 ∙ b.0 in laws.one_journal xs ys a.1 b.1 (cc both)
+
+lines_alike : Journals → (journal : Option (List ℕ)) (f : Func) (asked : Asked) (r q : Result (List ℕ) ToolStop) →
+    LinesGive journal f asked r → LinesGive journal f asked q → r ≡ q
+lines_alike laws journal f asked r q a b =
+    elim a [
+      | inl x ↦
+          let why = line_why journal x.0 x.1.0 x.1.1.0 in
+          elim b [
+            | inl y ↦
+                let also = line_why journal y.0 y.1.0 y.1.1.0 in
+                x.1.1.1
+                ∙ ap Err (why.1.0 ∙ ap BadLine (one_line laws journal why.0 also.0 why.1.1 also.1.1) ∙ sym also.1.0)
+                ∙ sym y.1.1.1
+            | inr y ↦ absurd (no_line laws journal y.0 why.0 y.1.0 why.1.1)
+          ]
+      | inr x ↦ elim b [
+        | inl y ↦
+            let also = line_why journal y.0 y.1.0 y.1.1.0 in absurd (no_line laws journal x.0 also.0 x.1.0 also.1.1)
+        | inr y ↦
+            let same : y.0 ≡ x.0 = one_list laws journal y.0 x.0 y.1.0 x.1.0 in
+            entries_run_alike laws f asked x.0 r q x.1.1 (subst (λ es. EntriesGive f asked es q) same y.1.1)
+      ]
+    ]
+
+parts_alike : Journals → OneAnswer → (text : List ℕ) (journal : Option (List ℕ)) (asked : Asked) (r q : Result (List ℕ) ToolStop) →
+    PartsGive text journal asked r → PartsGive text journal asked q → r ≡ q
+parts_alike laws law text journal asked r q a b =
+    elim a [
+      | inl x ↦ elim b [
+        | inl y ↦
+            let both : Err x.0 ≡ Err y.0 = entries_alike law text asked.entry (Err x.0) (Err y.0) x.1.0 y.1.0 in
+            let stops : x.0 ≡ y.0 = cc both in
+            x.1.1 ∙ ap (λ s. Err (Shared s)) stops ∙ sym y.1.1
+        | inr y ↦ absurd (cc (entries_alike law text asked.entry (Err x.0) (Ok y.0) x.1.0 y.1.0))
+      ]
+      | inr x ↦ elim b [
+        | inl y ↦ absurd (cc (entries_alike law text asked.entry (Ok x.0) (Err y.0) x.1.0 y.1.0))
+        | inr y ↦
+            let both : Ok x.0 ≡ Ok y.0 = entries_alike law text asked.entry (Ok x.0) (Ok y.0) x.1.0 y.1.0 in
+            let same : x.0 ≡ y.0 = cc both in
+            lines_alike laws journal y.0 asked r q (subst (λ h. LinesGive journal h asked r) same x.1.1) y.1.1
+      ]
+    ]
+
+splits_alike : Journals → OneAnswer → (text : List ℕ) (journal : Option (List ℕ)) (asked : Asked) (r q : Result (List ℕ) ToolStop) →
+    SplitGives text journal asked r → SplitGives text journal asked q → r ≡ q
+splits_alike laws law text journal asked r q a b =
+    elim a [
+      | inl x ↦ elim b [ inl y ↦ x.1 ∙ sym y.1 | inr y ↦ absurd (omega (arith, x.0, y.0)) ]
+      | inr x ↦ elim b [
+        | inl y ↦ absurd (omega (arith, y.0, x.0))
+        | inr y ↦ parts_alike laws law text journal asked r q x.1 y.1
+      ]
+    ]
+
+-- ---- the parts of the input
+
+and_right : (a b : Bool) → (a && b) ≡ true → b ≡ true
+and_right true b e = e
+and_right false b e = absurd (cc e)
+
+and_left : (a b : Bool) → (a && b) ≡ true → a ≡ true
+and_left true b e = refl
+and_left false b e = absurd (cc e)
+
+le_of : (a b : ℕ) → nat_le a b ≡ true → a ≤ b
+le_of a b e = grind (arith)
+
+heading_within : (bytes : List ℕ) (at : ℕ) → is_heading bytes at ≡ true → at ≤ length bytes
+heading_within bytes at is =
+    let room : at + 10 ≤ length bytes = le_of (at + 10) (length bytes) (and_left _ _ (and_right _ _ is)) in omega (arith, room)
+
+not_both : (x : Bool) → x ≡ true → x ≡ false → ⊥
+not_both x holds fails = let both : true ≡ false = sym holds ∙ fails in cc both
+
+one_split : (bytes t u : List ℕ) (j k : Option (List ℕ)) → IsSplit bytes t j → IsSplit bytes u k → (t ≡ u) × (j ≡ k)
+one_split bytes t u None None a b = (a.0 ∙ sym b.0, refl)
+one_split bytes t u None (Some k) a b =
+    absurd (not_both _ b.1.0 (a.1 b.0 (heading_within bytes b.0 b.1.0)))
+one_split bytes t u (Some j) None a b =
+    absurd (not_both _ a.1.0 (b.1 a.0 (heading_within bytes a.0 a.1.0)))
+one_split bytes t u (Some j) (Some k) a b =
+    elim (cases_order a.0 b.0) [
+      | inl same ↦ (
+        a.1.1.1.0 ∙ ap (λ n. take n bytes) same ∙ sym b.1.1.1.0,
+        ap Some (a.1.1.1.1 ∙ ap (λ n. drop (n + 11) bytes) same ∙ sym b.1.1.1.1),
+      )
+      | inr differs ↦ elim differs [
+        | inl below ↦ absurd (not_both _ a.1.0 (b.1.1.0 a.0 below))
+        | inr above ↦ absurd (not_both _ b.1.0 (a.1.1.0 b.0 above))
+      ]
+    ]
+
+replays_alike : Journals → OneAnswer → (bytes : List ℕ) (asked : Asked) (r q : Result (List ℕ) ToolStop) →
+    ReplayGives bytes asked r → ReplayGives bytes asked q → r ≡ q
+replays_alike laws law bytes asked r q a b =
+    elim a [
+      | inl x ↦ elim b [ inl y ↦ x.1 ∙ sym y.1 | inr y ↦ absurd (omega (arith, x.0, y.0)) ]
+      | inr x ↦ elim b [
+        | inl y ↦ absurd (omega (arith, y.0, x.0))
+        | inr y ↦
+            let same = one_split bytes y.1.0 x.1.0 y.1.1.0 x.1.1.0 y.1.1.1.0 x.1.1.1.0 in
+            let text_is : SplitGives x.1.0 y.1.1.0 asked q = subst (λ t. SplitGives t y.1.1.0 asked q) same.0 y.1.1.1.1 in
+            let all_is : SplitGives x.1.0 x.1.1.0 asked q = subst (λ j. SplitGives x.1.0 j asked q) same.1 text_is in
+            splits_alike laws law x.1.0 x.1.1.0 asked r q x.1.1.1.1 all_is
+      ]
+    ]
+
+given_parts : (source : Told) (bytes text : List ℕ) (journal : Option (List ℕ)) (asked : Asked) (r : Result (List ℕ) ToolStop) →
+    source.left ≡ Some bytes → IsGiven source text journal → SplitGives text journal asked r → ReplayGives bytes asked r
+given_parts source bytes text journal asked r told given gives =
+    let read = input_gives input_limit source bytes given.bytes told given.input in
+    inr (read.1, (text, (journal, (subst (λ b. IsSplit b text journal) read.0 given.parts, gives))))
+
+replay_ends : (source : Told) (bytes : List ℕ) (asked : Asked) (text : List ℕ) → source.left ≡ Some bytes → ReplayEnds source asked text →
+    ReplayGives bytes asked (Ok text)
+replay_ends source bytes asked text told ends =
+    given_parts source bytes ends.program ends.journal asked (Ok text) told ends.was_given
+    (inr (ends.within, inr (ends.entry, (ends.found, inr (ends.entries, (ends.lines, ends.finishes))))))
+
+replay_stops : (source : Told) (bytes : List ℕ) (asked : Asked) (cause : ToolStop) → source.left ≡ Some bytes →
+    is_decided_cause cause ≡ true → ReplayCauses source asked cause → ReplayGives bytes asked (Err cause)
+replay_stops source bytes asked _ told decided (ReplayCauses.input s why) =
+    let input = input_stops input_limit source bytes s told decided why in inl (input.1, ap (λ s. Err (Shared s)) input.0)
+replay_stops source bytes asked _ told decided (ReplayCauses.long_text text journal given long) =
+    given_parts source bytes text journal asked _ told given (inl (long, refl))
+replay_stops source bytes asked _ told decided (ReplayCauses.no_entry s text journal given within why) =
+    given_parts source bytes text journal asked _ told given (inr (within, inl (s, ((decided, why), refl))))
+replay_stops source bytes asked cause told decided (ReplayCauses.no_journal c text journal f given within found why) =
+    given_parts source bytes text journal asked _ told given
+    (inr (within, inr (f, (found, inl (cause, (decided, (why, refl)))))))
+replay_stops source bytes asked cause told decided (ReplayCauses.no_end c text journal f entries given within found lines why) =
+    given_parts source bytes text journal asked _ told given
+    (inr (within, inr (f, (found, inr (entries, (lines, (decided, why)))))))
+
+-- ---- each command
+
+abbrev CommandGives : Command → List ℕ → Asked → Result (List ℕ) ToolStop → Type 0
+CommandGives Check bytes asked r = CheckGives bytes r
+CommandGives Replay bytes asked r = ReplayGives bytes asked r
+CommandGives Run bytes asked r = r ≡ Err (Shared stop.Words)
+
+commands_alike : Journals → OneAnswer → (command : Command) (bytes : List ℕ) (asked : Asked) (r q : Result (List ℕ) ToolStop) →
+    CommandGives command bytes asked r → CommandGives command bytes asked q → r ≡ q
+commands_alike laws law Check bytes asked r q a b = checks_alike law bytes r q a b
+commands_alike laws law Replay bytes asked r q a b = replays_alike laws law bytes asked r q a b
+commands_alike laws law Run bytes asked r q a b = a ∙ sym b
+
+command_ends : (command : Command) (source : Told) (bytes : List ℕ) (asked : Asked) (status : ℕ) (text : List ℕ) → source.left ≡ Some bytes →
+    CommandEnds command source asked status text → (status ≡ 0) × CommandGives command bytes asked (Ok text)
+command_ends Check source bytes asked status text told ends = (ends.0, check_ends source bytes text told ends.1)
+command_ends Replay source bytes asked status text told ends = (ends.0, replay_ends source bytes asked text told ends.1)
+command_ends Run source bytes asked status text told ends = absurd ends
+
+command_stops : (command : Command) (source : Told) (bytes : List ℕ) (asked : Asked) (cause : ToolStop) → source.left ≡ Some bytes →
+    is_decided_cause cause ≡ true → CommandCauses command source asked cause → CommandGives command bytes asked (Err cause)
+command_stops Check source bytes asked cause told decided why = check_stops source bytes cause told decided why
+command_stops Replay source bytes asked cause told decided why = replay_stops source bytes asked cause told decided why
+command_stops Run source bytes asked cause told decided why = ap Err why
+
+-- a status that isn't 7, 8 or 9 is that of a decided cause
+cause_decided : (cause : ToolStop) → IsDecided (tool_status cause) → is_decided_cause cause ≡ true
+cause_decided (BadLine line) is = refl
+cause_decided (NotARun n named kept) is = refl
+cause_decided (Unfinished entries) is = refl
+cause_decided (Shared stop.Read) is = absurd (is.0 refl)
+cause_decided (Shared (stop.Write written)) is = absurd (is.1.0 refl)
+cause_decided (Shared stop.OutOfMemory) is = absurd (is.1.1 refl)
+cause_decided (Shared stop.Words) is = refl
+cause_decided (Shared (stop.TooLong limit)) is = refl
+cause_decided (Shared (stop.Module fault)) is = refl
+cause_decided (Shared stop.NoEntry) is = refl
+cause_decided (Shared (stop.EntryType op)) is = refl
+cause_decided (Shared (stop.NotYet op)) is = refl
+cause_decided (Shared (stop.Short parked)) is = refl
+cause_decided (Shared (stop.Spent entries)) is = refl
+
+-- a status and its text, as what they stand for
+abbrev IsTold : List ℕ → ℕ → List ℕ → Result (List ℕ) ToolStop → Type 0
+IsTold entry status t (Ok text) = (status ≡ 0) × (t ≡ text)
+IsTold entry status t (Err cause) = (status ≡ tool_status cause) × (t ≡ tool_text entry cause)
+
+same_told : (entry : List ℕ) (a b : ℕ) (s t : List ℕ) (r : Result (List ℕ) ToolStop) → IsTold entry a s r → IsTold entry b t r → (a ≡ b) × (s ≡ t)
+same_told entry a b s t (Ok text) x y = (x.0 ∙ sym y.0, x.1 ∙ sym y.1)
+same_told entry a b s t (Err cause) x y = (x.0 ∙ sym y.0, x.1 ∙ sym y.1)
+
+abbrev AskedGives : Asked → List ℕ → ℕ → List ℕ → Type 0
+AskedGives asked bytes status t =
+    (r : Result (List ℕ) ToolStop) × (CommandGives asked.command bytes asked r × IsTold asked.entry status t r)
+
+-- the words ask for nothing, or a command gives this
+abbrev ToolGives : List (List ℕ) → List ℕ → ℕ → List ℕ → Type 0
+ToolGives words bytes status t =
+    ((asked_of words ≡ None) × IsTold [] status t (Err (Shared stop.Words)))
+    ⊎ ((asked : Asked) × ((asked_of words ≡ Some asked) × AskedGives asked bytes status t))
+
+tool_owed : (given : Given) (bytes : List ℕ) (status : ℕ) (t : List ℕ) → given.source.left ≡ Some bytes → IsDecided status →
+    ToolOwes given status t → ToolGives given.words bytes status t
+tool_owed given bytes _ _ told decided (ToolOwes.words none) = inl (none, (refl, refl))
+tool_owed given bytes status t told decided (ToolOwes.ended asked code text asks ends) =
+    let gives = command_ends asked.command given.source bytes asked status t told ends in
+    inr (asked, (asks, (Ok t, (gives.1, (gives.0, refl)))))
+tool_owed given bytes _ _ told decided (ToolOwes.stopped asked cause asks why) =
+    inr (
+      asked,
+      (asks, (Err cause, (command_stops asked.command given.source bytes asked cause told (cause_decided cause decided) why, (refl, refl)))),
+    )
+
+asked_alike : Journals → OneAnswer → (asked : Asked) (bytes : List ℕ) (a b : ℕ) (s t : List ℕ) → AskedGives asked bytes a s →
+    AskedGives asked bytes b t → (a ≡ b) × (s ≡ t)
+asked_alike laws law asked bytes a b s t x y =
+    let same : x.0 ≡ y.0 = commands_alike laws law asked.command bytes asked x.0 y.0 x.1.0 y.1.0 in
+    same_told asked.entry a b s t y.0 (subst (IsTold asked.entry a s) same x.1.1) y.1.1
+
+tool_alike : Journals → OneAnswer → (words : List (List ℕ)) (bytes : List ℕ) (a b : ℕ) (s t : List ℕ) → ToolGives words bytes a s →
+    ToolGives words bytes b t → (a ≡ b) × (s ≡ t)
+tool_alike laws law words bytes a b s t first second =
+    elim first [
+      | inl x ↦ elim second [
+        | inl y ↦ (x.1.0 ∙ sym y.1.0, x.1.1 ∙ sym y.1.1)
+        | inr y ↦ absurd (cc (sym x.0 ∙ y.1.0))
+      ]
+      | inr x ↦ elim second [
+        | inl y ↦ absurd (cc (sym y.0 ∙ x.1.0))
+        | inr y ↦
+            let same : y.0 ≡ x.0 = one_asked words y.0 x.0 y.1.0 x.1.0 in
+            asked_alike laws law x.0 bytes a b s t x.1.1 (subst (λ o. AskedGives o bytes b t) same y.1.1)
+      ]
+    ]
+
+pub tool_owes_one : Journals → OneAnswer → ToolOwesOne
+tool_owes_one laws law g h a b s t alike a_is b_is first second =
+    let x = tool_owed g alike.bytes a s alike.first a_is first in
+    let later = tool_owed h alike.bytes b t alike.second b_is second in
+    tool_alike laws law g.words alike.bytes a b s t x (subst (λ w. ToolGives w alike.bytes b t) (sym alike.words) later)

@@ -1,0 +1,9 @@
+pub mod FirstFault
+pub mod Texts
+pub mod Unknown
+pub mod Fitting
+pub mod TokenClasses
+pub mod Exact
+pub mod Limits
+pub mod WideNumbers
+pub mod UnknownTypes
