@@ -1,0 +1,6 @@
+pub mod Elements
+pub mod Examples
+pub mod Follow
+pub mod MoreFuel
+pub mod Renamed
+pub mod SeqRun

@@ -1,0 +1,9 @@
+//! Laws of what source modules mean, and worked modules whose runs the definitions compute.
+#![tactic(auto)]
+
+mod laws;
+
+pub use laws::{
+    more_fuel_is_the_same, next_is_renamed, sequential_is_a_run, tasks_follow_answers,
+    worked_modules,
+};

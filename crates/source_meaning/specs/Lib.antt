@@ -1,0 +1,12 @@
+pub mod Values
+pub mod Parts
+pub mod Tasks
+pub mod Rows
+pub mod Flow
+pub mod Steps
+pub mod World
+pub mod Start
+pub mod Sequential
+pub mod TaskOrder
+pub mod Renaming
+pub mod Runs

@@ -1,0 +1,8 @@
+//! What source modules mean: what a task does next, the sequential run, and the runs in any order of tasks.
+#![tactic(auto)]
+
+mod ends;
+mod values;
+
+pub use ends::{SourceEnd, SourceRun};
+pub use values::Val;
