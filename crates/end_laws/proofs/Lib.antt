@@ -1,0 +1,2 @@
+pub mod ModuleLaw
+pub mod Unread

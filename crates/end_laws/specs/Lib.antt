@@ -1,0 +1,2 @@
+pub mod ModuleProgram
+pub mod Unread

@@ -1,0 +1,12 @@
+pub mod Basics
+pub mod Histories
+pub mod Orders
+pub mod Makers
+pub mod Pairs
+pub mod Weights
+pub mod Groups
+pub mod Bounds
+pub mod Sounds
+pub mod Touches
+pub mod Answers
+pub mod Law

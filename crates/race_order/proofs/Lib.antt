@@ -1,0 +1,3 @@
+pub mod FirstRace
+pub mod Last
+pub mod Worked
