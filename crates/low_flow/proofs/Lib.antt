@@ -1,0 +1,4 @@
+pub mod Membership
+pub mod InverseLemmas
+pub mod SearchLemmas
+pub mod PathLemmas

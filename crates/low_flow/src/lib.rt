@@ -1,0 +1,13 @@
+//! Registers along the paths of a function's blocks: `all_assigned` answers whether each register that a block needs is
+//! assigned on every path that leads there. Blocks and registers are numbers here, so that whatever code consists of
+//! blocks can be asked about.
+#![tactic(auto)]
+
+mod assigned;
+mod marking;
+mod places;
+#[cfg(test)]
+mod tests;
+
+pub use assigned::all_assigned;
+pub use places::inverse;
