@@ -1,0 +1,13 @@
+pub mod Rows
+pub mod Registers
+pub mod Fits
+pub mod Numbers
+pub mod Edges
+pub mod Counting
+pub mod Saves
+pub mod Assigned
+pub mod Given
+pub mod WellFormed
+pub mod Owns
+pub mod Places
+pub mod Laws
