@@ -1,12 +1,8 @@
-//! Lists of things with names, and the first thing of a name in constant time.
+//! Lists of things with names, and the first thing of a name in few steps.
 #![tactic(auto)]
 
-mod hash;
-mod index;
 mod name_list;
 #[cfg(test)]
 mod tests;
 
-pub use hash::hash_of;
-pub use index::HasName;
-pub use name_list::NameList;
+pub use name_list::{HasName, NameList};

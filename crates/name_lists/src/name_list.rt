@@ -1,25 +1,37 @@
 //! A list of things with names.
-ghost use Rattle.std.specs.Prelude.{◌≡◌, ◌++◌, ◌∷◌, [], length, take, MatchOption, OnOk, OnErr};
-ghost use Rattle.name_lists.specs.Index.{first_named};
+ghost use Rattle.std.specs.Prelude.{◌≡◌, ◌++◌, ◌∷◌, [], List, ℕ, length, take, drop, MatchOption, OnOk, OnErr};
+ghost use Rattle.std.specs.Str.{bytes_eq};
+ghost use Rattle.name_lists.specs.Names.{first_named, place_at, or_place, without_place};
 
-use crate::index::{HasName, add, find, indexed, pop_last};
 use lists::Items;
 use std::alloc::{AllocError, Global};
+use std::collections::BTreeMap;
 use std::marker::Model;
 
-/// A growing list of things with names, which finds the first thing of a name in constant time.
-/// Contracts see it as the list of its things.
+/// A thing with a name.
+pub trait HasName {
+    ghost text: { Self → List ℕ };
+
+    fn name(&self) -> &[u8]
+        ensures { result.now ≡ text self.now };
+}
+
+/// So many things at the end of a list are looked through one by one.
+const FEW: usize = 8;
+
+/// A growing list of things with names, which finds the first thing of a name in as many steps as the logarithm of its
+/// length. Contracts see it as the list of its things.
 #[derive(Drop)]
 pub struct NameList<T: HasName> {
     items: Items<T>,
-    before: Vec<usize>,
-    heads: Vec<usize>,
+    places: BTreeMap<Vec<u8>, usize>,
+    mapped: usize,
 }
 
 impl<T: HasName> Model for NameList<T> {
-    ghost use Rattle.std.specs.Prelude.{List, length};
+    ghost use Rattle.std.specs.Prelude.{List};
     ghost use Rattle.std.specs.Coded.{coded_list};
-    ghost use Rattle.name_lists.specs.Index.{IsIndex, bucket_of};
+    ghost use Rattle.name_lists.specs.Names.{AreFirsts};
 
     ghost Value = { List T };
 
@@ -27,7 +39,36 @@ impl<T: HasName> Model for NameList<T> {
 
     ghost view = { λ n. n.items };
 
-    ghost invariant = { λ n. IsIndex (bucket_of T.text (length n.heads.items)) n.items n.before.items n.heads.items };
+    ghost invariant = { λ n. AreFirsts T.text n.items n.places n.mapped };
+}
+/// Enters a name with its place, unless it is there.
+fn enter(
+    alloc: Global,
+    places: &mut BTreeMap<Vec<u8>, usize>,
+    name: &[u8],
+    place: usize,
+) -> Result<(), AllocError>
+    ensures ok { OnOk result ((sought : List ℕ) → place_at places.new sought ≡ or_place (place_at places.old sought) (bytes_eq name.now sought) place) }
+    ensures err { OnErr result ((sought : List ℕ) → place_at places.new sought ≡ place_at places.old sought) }
+{
+    if places.contains_key(name) {
+        return Ok(());
+    }
+    let mut key = Vec::new(alloc);
+    key.extend_from_slice(name)?;
+    places.insert(key, place)?;
+    Ok(())
+}
+
+/// Takes out a name, if this is its place.
+fn leave(places: &mut BTreeMap<Vec<u8>, usize>, name: &[u8], place: usize)
+    ensures { (sought : List ℕ) → place_at places.new sought ≡ without_place (place_at places.old sought) (bytes_eq name.now sought) place }
+{
+    if let Some(found) = places.get(name) {
+        if *found == place {
+            places.remove(name);
+        }
+    }
 }
 
 impl<T: HasName> NameList<T> {
@@ -37,8 +78,8 @@ impl<T: HasName> NameList<T> {
     {
         NameList {
             items: Items::new(alloc),
-            before: Vec::new(alloc),
-            heads: Vec::new(alloc),
+            places: BTreeMap::new(alloc),
+            mapped: 0,
         }
     }
 
@@ -58,12 +99,16 @@ impl<T: HasName> NameList<T> {
     pub fn first(&self, name: &[u8]) -> Option<usize>
         ensures { result ≡ first_named T.text self.now name.now }
     {
-        find(
-            self.items.as_slice(),
-            self.before.as_slice(),
-            self.heads.as_slice(),
-            name,
-        )
+        if let Some(place) = self.places.get(name) {
+            return Some(*place);
+        }
+        let items = self.items.as_slice();
+        for place in self.mapped..items.len() {
+            if items[place].name() == name {
+                return Some(place);
+            }
+        }
+        None
     }
 
     pub fn into_items(self) -> Items<T>
@@ -74,18 +119,31 @@ impl<T: HasName> NameList<T> {
 }
 
 impl<T: HasName + Drop> NameList<T> {
+    /// Puts the next thing into the map.
+    fn map_next(&mut self, alloc: Global) -> Result<(), AllocError>
+        ensures { self.new ≡ self.old }
+    {
+        let items = self.items.as_slice();
+        if self.mapped < items.len() {
+            let name = items[self.mapped].name();
+            enter(alloc, &mut self.places, name, self.mapped)?;
+            self.mapped += 1;
+        }
+        Ok(())
+    }
+
     /// Adds a thing at the end. Without memory the list stays as it was.
     pub fn push(&mut self, alloc: Global, item: T) -> Result<(), AllocError>
         ensures ok { OnOk result (self.new ≡ self.old ++ item ∷ []) }
         ensures err { OnErr result (self.new ≡ self.old) }
     {
-        if self.heads.len() <= self.items.len() || self.heads.is_empty() {
-            let buckets = self.items.len().saturating_mul(2).saturating_add(8);
-            let (before, heads) = indexed(alloc, self.items.as_slice(), buckets)?;
-            self.before = before;
-            self.heads = heads;
+        if self.items.len() - self.mapped >= FEW {
+            for _turn in 0..FEW {
+                self.map_next(alloc)?;
+            }
         }
-        add(&mut self.items, &mut self.before, &mut self.heads, item)
+        self.items.push(item)?;
+        Ok(())
     }
 
     /// Moves the things of another list behind these. Without memory some of them may be there.
@@ -102,15 +160,21 @@ impl<T: HasName + Drop> NameList<T> {
     pub fn pop(&mut self) -> Option<T>
         ensures { MatchOption result ((self.old ≡ []) × (self.new ≡ [])) (λ last. self.old ≡ self.new ++ last ∷ []) }
     {
-        pop_last(&mut self.items, &mut self.before, &mut self.heads)
+        let item = self.items.pop()?;
+        let place = self.items.len();
+        if place < self.mapped {
+            leave(&mut self.places, item.name(), place);
+            self.mapped = place;
+        }
+        Some(item)
     }
 
     /// Keeps the first things, as many as this or all.
     pub fn truncate(&mut self, len: usize)
         ensures { self.new ≡ take len self.old }
     {
-        while len < self.items.len() {
-            let _last = pop_last(&mut self.items, &mut self.before, &mut self.heads);
+        while len < self.len() {
+            let _last = self.pop();
         }
     }
 }

@@ -1,4 +1,4 @@
-use crate::{HasName, NameList, hash_of};
+use crate::{HasName, NameList};
 use lists::Items;
 use std::alloc::{AllocError, Global};
 use std::test::Fail;
@@ -60,14 +60,6 @@ fn finds_nothing_in_an_empty_list(rt: HostRuntime) {
     assert_eq!(rt; list.len(), 0);
 }
 
-/// The values are those of FNV-1a.
-#[test]
-fn hashes_names(rt: HostRuntime) {
-    assert_eq!(rt; hash_of(b""), 0x811c_9dc5);
-    assert_eq!(rt; hash_of(b"a"), 0xe40c_292c);
-    assert_eq!(rt; hash_of(b"foobar"), 0xbf9c_f968);
-}
-
 /// Sixty thousand names, each sought: too many for a look from end to end.
 #[test]
 fn finds_each_of_many_at_once(rt: HostRuntime) -> Result<(), Fail> {
@@ -79,5 +71,19 @@ fn finds_each_of_many_at_once(rt: HostRuntime) -> Result<(), Fail> {
         }
     }
     assert_eq!(rt; missed, 0);
+    Ok(())
+}
+
+/// One name as often: the first of them is found at once, whatever is taken off.
+#[test]
+fn finds_the_first_of_one_name_at_once(rt: HostRuntime) -> Result<(), Fail> {
+    let mut list = NameList::new(rt.alloc());
+    for _turn in 0..60_000u32 {
+        list.push(rt.alloc(), make_word(rt.alloc(), 7)?)?;
+    }
+    for _turn in 0..59_999u32 {
+        assert_eq!(rt; list.first(b"w7"), Some(0));
+        let _last = list.pop();
+    }
     Ok(())
 }
