@@ -1,10 +1,10 @@
 //! The calls of each function.
 ghost use Rattle.std.specs.Prelude.{◌≡◌, ◌++◌, OnOk, IfOk};
 ghost use Rattle.ir_forms.specs.Ops.{kind_of, attr_of};
-ghost use Rattle.ir_verify.specs.Calls.{call_of, calls_at, calls_in, graph_of};
+ghost use Rattle.ir_verify.specs.Calls.{call_of, calls_at, calls_in, graph_of, AreMarks};
 
 use crate::breaks::is_call;
-use crate::calls::{Call, call_to};
+use crate::calls::{Call, call_to, marks};
 use crate::form::form_of;
 use crate::names::Names;
 use crate::place::Nest;
@@ -69,4 +69,13 @@ pub(crate) fn graph_of(
         graph.push(calls)?;
     }
     Ok(graph)
+}
+
+/// Of each function, by its place, whether a task calls it.
+pub fn task_called(alloc: Global, funcs: &[Func]) -> Result<Vec<bool>, AllocError>
+    ensures { IfOk result (λ called. AreMarks (graph_of funcs.now) called.items) }
+{
+    let names = Names::new(alloc, funcs)?;
+    let graph = graph_of(alloc, &names, funcs)?;
+    marks(alloc, graph.as_slice())
 }

@@ -24,6 +24,8 @@ mod walk;
 pub use calls::Call;
 pub use entry::{EntryFault, entry_of};
 pub use fault::{Broken, VerifyKind};
+pub use graph::task_called;
+pub use names::Names;
 pub use outcome::{VerifyFault, verify};
 pub use place::Nest;
 pub use verified::Verified;

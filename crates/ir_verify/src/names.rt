@@ -11,7 +11,7 @@ use std::marker::Model;
 
 /// The functions of a module, with the place of the first one of each name.
 #[derive(Drop)]
-pub(crate) struct Names<'a> {
+pub struct Names<'a> {
     funcs: &'a [Func],
     places: IndexMap<&'a [u8], usize>,
 }
@@ -33,7 +33,7 @@ impl<'a> Model for Names<'a> {
 }
 
 impl<'a> Names<'a> {
-    pub(crate) fn new(alloc: Global, funcs: &'a [Func]) -> Result<Names<'a>, AllocError>
+    pub fn new(alloc: Global, funcs: &'a [Func]) -> Result<Names<'a>, AllocError>
         ensures { IfOk result (λ names. names ≡ funcs.now) }
     {
         let mut places = IndexMap::new(alloc);
@@ -47,7 +47,7 @@ impl<'a> Names<'a> {
     }
 
     /// The place of the first function of this name.
-    pub(crate) fn find(&self, name: &[u8]) -> Option<usize>
+    pub fn find(&self, name: &[u8]) -> Option<usize>
         ensures { result ≡ first_named self.now name.now }
     {
         self.places.get(name).copied()

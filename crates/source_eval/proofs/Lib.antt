@@ -1,3 +1,5 @@
-pub mod Puts
-pub mod CalleeLemmas
-pub mod Caught
+pub mod Likes
+pub mod Moves
+pub mod Paths
+pub mod WholeFits
+pub mod WholeSteps

@@ -1,11 +1,11 @@
-//! The evaluator of source modules: it runs a module in sequence as its meaning says.
+//! The evaluator of source modules: it runs a function in sequence, as its meaning says, with an end and a trace.
 #![tactic(auto)]
 
-mod alone;
-mod callees;
-mod copies;
-mod env;
-mod flow;
-mod forms;
-mod frames;
-mod task;
+mod answers;
+mod ends;
+mod joins;
+mod made;
+mod sequence;
+mod whole;
+
+pub use whole::evaluate;

@@ -1,0 +1,6 @@
+pub mod Asking
+pub mod Code
+pub mod Numbers
+pub mod Pending
+pub mod Rows
+pub mod Uses
