@@ -63,7 +63,7 @@ none_past trace i j l = rw (slice_get_past trace j l) (lost (slice_get trace i))
   lost None = refl
   lost (Some e) = refl
 
-within_or : (trace : List TraceEntry) (i j : ℕ) → (j < length trace → races trace i j ≡ false) → races trace i j ≡ false
+pub within_or : (trace : List TraceEntry) (i j : ℕ) → (j < length trace → races trace i j ≡ false) → races trace i j ≡ false
 within_or trace i j h = split (ltb j (length trace)) refl where
   split : (b : Bool) → ltb j (length trace) ≡ b → races trace i j ≡ false
   split true e = h (ltb-true j (length trace) e)

@@ -8,7 +8,7 @@ use Rattle.race_order.specs.Known.{known}
 use Rattle.race_order.specs.Race.{in_conflict, entries_of, is_known, are_racing, races, LastTellsAll}
 
 -- a longer part of a trace has no fewer entries of a task
-more_entries : (p : Path) (trace : List TraceEntry) (m n : ℕ) → m ≤ n → entries_of p (take m trace) ≤ entries_of p (take n trace)
+pub more_entries : (p : Path) (trace : List TraceEntry) (m n : ℕ) → m ≤ n → entries_of p (take m trace) ≤ entries_of p (take n trace)
 more_entries p [] zero zero l = omega arith
 more_entries p [] zero (suc n) l = omega arith
 more_entries p [] (suc m) zero l = omega arith

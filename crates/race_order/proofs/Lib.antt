@@ -1,3 +1,11 @@
+pub mod Answer
+pub mod Entries
 pub mod FirstRace
 pub mod Last
+pub mod Learn
+pub mod Marked
+pub mod Meets
+pub mod Members
+pub mod Step
+pub mod Trees
 pub mod Worked

@@ -1,3 +1,9 @@
+pub mod Clocks
+pub mod Keys
 pub mod Known
+pub mod Marks
 pub mod Race
+pub mod Sights
+pub mod Table
+pub mod Touch
 pub mod Worked

@@ -2,6 +2,14 @@
 //! conflict that nothing orders.
 #![tactic(auto)]
 
+mod clocks;
+mod keys;
 mod laws;
+mod marks;
+mod search;
+mod table;
+mod tasks;
+mod touches;
 
 pub use laws::{first_race_is_exact, last_entries_tell_all, worked_races};
+pub use search::first_race;
