@@ -26,7 +26,7 @@ one_then f g o p y z same then e h = step (then_from f o y e) (then_from g p z h
   step : Then f o y → Then g p z → y ≡ z
   step a b = then a.first y z a.gives (subst (λ x. g x ≡ Some z) (sym (same a.first b.first a.there b.there)) b.gives)
 
-settled_one : (p : Program) (m n : ℕ) (s x y : Next) → settled p m s ≡ Some x → settled p n s ≡ Some y → x ≡ y
+pub settled_one : (p : Program) (m n : ℕ) (s x y : Next) → settled p m s ≡ Some x → settled p n s ≡ Some y → x ≡ y
 settled_one p zero n (Goes t) x y e h = absurd (none≢some x e)
 settled_one p (suc m) zero (Goes t) x y e h = absurd (none≢some y h)
 settled_one p (suc m) (suc n) (Goes t) x y e h = settled_one p m n (next p t) x y e h
@@ -36,7 +36,7 @@ settled_one p m n (Ends o) x y e h = some_inj x y (sym e ∙ h)
 same_some : {X Y : Type 0} (f : X → Option Y) (x : X) (a b : Y) → f x ≡ Some a → f x ≡ Some b → a ≡ b
 same_some f x a b e h = some_inj a b (sym e ∙ h)
 
-standing_one : (p : Program) (b : Begin) (answers : List (one.Answer Values)) (m n : ℕ) (t u : Task) → standing p b answers m ≡ Some t → standing p b answers n ≡ Some u → t ≡ u
+pub standing_one : (p : Program) (b : Begin) (answers : List (one.Answer Values)) (m n : ℕ) (t u : Task) → standing p b answers m ≡ Some t → standing p b answers n ≡ Some u → t ≡ u
 standing_one p b [] m n t u e h = some_inj t u (sym e ∙ h)
 standing_one p b (a ∷ older) m n t u e h =
     one_then (λ t. and_then (replied b.path (suc (length older)) a) (settled p m (next p t))) (λ t. and_then (replied b.path (suc (length older)) a) (settled p n (next p t))) (standing p b older m) (standing p b older n) t u (standing_one p b older m n)

@@ -59,10 +59,10 @@ each_second Q (x ∷ xs) ys h = each_second Q xs ys h.1
 
 -- ---- operands of parts
 
-op_operands : (o : Op) → operands_of o ≡ (out-Op o).operands ++ joined (map operands_under (out-Op o).regions)
+pub op_operands : (o : Op) → operands_of o ≡ (out-Op o).operands ++ joined (map operands_under (out-Op o).regions)
 op_operands o = fold_out-Op (List ValueNo) (List ValueNo) uses_at uses_under o
 
-region_operands : (r : Region) → operands_under r ≡ joined (map operands_of (ops_of r))
+pub region_operands : (r : Region) → operands_under r ≡ joined (map operands_of (ops_of r))
 region_operands r = fold_out-Region (List ValueNo) (List ValueNo) uses_at uses_under r
 
 module _ (p : Program) where
@@ -94,7 +94,7 @@ module _ (p : Program) (uses : p.uses ≡ map uses_of p.funcs) where
     list : or_else [] (slice_get p.uses j) ≡ operands_under f.body
     list = ap (λ us. or_else [] (slice_get us j)) uses ∙ (ap (or_else []) (slice_get-map uses_of p.funcs j) ∙ ap (λ o. or_else [] (option_map uses_of o)) e)
 
-  func_read : (j : ℕ) → AreRead p j (func_ops (slice_get p.funcs j))
+  pub func_read : (j : ℕ) → AreRead p j (func_ops (slice_get p.funcs j))
   func_read j = func_read_at j (slice_get p.funcs j) refl
 
   sees_put : (k : ℕ) (env other : Env) (x : ℕ) (v : Val) → Sees p k env other → Sees p k (put env x v) (put other x v)
@@ -108,7 +108,7 @@ module _ (p : Program) (uses : p.uses ≡ map uses_of p.funcs) where
   sees_bind k [] (v ∷ vs) env other h = h
   sees_bind k (x ∷ xs) (v ∷ vs) env other h = sees_bind k xs vs (put env x.0 v) (put other x.0 v) (sees_put k env other x.0 v h)
 
-  bound_like : (xs : List ValueNo) (vs : List Val) (t u : Task) → LikeTask p t u → LikeTask p (bound xs vs t) (bound xs vs u)
+  pub bound_like : (xs : List ValueNo) (vs : List Val) (t u : Task) → LikeTask p t u → LikeTask p (bound xs vs t) (bound xs vs u)
   bound_like xs vs t u h = record {
     pending = h.pending;
     rest = h.rest;
@@ -299,15 +299,15 @@ module _ (p : Program) (uses : p.uses ≡ map uses_of p.funcs) where
     does_like op.ScfIf vs = branches_like vs
     does_like op.ScfWhile vs = goes _ _ (rounds_like k n env other h rest read fs gs l o vs w)
     does_like op.ScfParallel vs = maybe_like (spans_of (numbers (group o vs 0)) (numbers (group o vs 1)) (numbers (group o vs 2))) _ _ spans_like
-    does_like op.MemrefAlloc vs = maybe_like (product_within most_cells (asked_sizes o vs)) _ _ (λ m. asked_like _ _ (same _))
-    does_like op.MemrefLoad vs = maybe_like (cell_from 0 (dims_in (value vs 0)) (numbers (drop 1 vs))) _ _ (λ i. asked_like _ _ (same _))
-    does_like op.MemrefStore vs = maybe_like (cell_from 0 (dims_in (value vs 1)) (numbers (drop 2 vs))) _ _ (λ i. asked_no_result _ _ (same _))
+    does_like op.MemrefAlloc vs = maybe_like (product_within most_cells (asked_sizes o vs)) _ _ (λ m. asked_like _ _ (same _ tt))
+    does_like op.MemrefLoad vs = maybe_like (cell_from 0 (dims_in (value vs 0)) (numbers (drop 1 vs))) _ _ (λ i. asked_like _ _ (same _ tt))
+    does_like op.MemrefStore vs = maybe_like (cell_from 0 (dims_in (value vs 1)) (numbers (drop 2 vs))) _ _ (λ i. asked_no_result _ _ (same _ tt))
     does_like op.MemrefDim vs = computes_like _
     does_like op.AsyncExecute vs = asked_like _ _ (like.launches _ _ _ (child_like vs))
-    does_like op.AsyncAwait vs = maybe_like (element_in (value vs 0)) _ _ (λ x. asked_like _ _ (same _))
-    does_like op.AsyncCreateGroup vs = cond_next (nat_le (number vs 0) most_elements) _ _ _ _ (asked_like _ _ (same _)) fails_like
-    does_like op.AsyncAddToGroup vs = maybe_like (element_in (value vs 0)) _ _ (λ x. asked_like _ _ (same _))
-    does_like op.AsyncAwaitAll vs = asked_no_result _ _ (same _)
+    does_like op.AsyncAwait vs = maybe_like (element_in (value vs 0)) _ _ (λ x. asked_like _ _ (same _ tt))
+    does_like op.AsyncCreateGroup vs = cond_next (nat_le (number vs 0) most_elements) _ _ _ _ (asked_like _ _ (same _ tt)) fails_like
+    does_like op.AsyncAddToGroup vs = maybe_like (element_in (value vs 0)) _ _ (λ x. asked_like _ _ (same _ tt))
+    does_like op.AsyncAwaitAll vs = asked_no_result _ _ (same _ tt)
     does_like kind vs = rest_like (is_terminator kind) vs
 
   -- ---- the next step
@@ -332,7 +332,7 @@ module _ (p : Program) (uses : p.uses ≡ map uses_of p.funcs) where
         LikeNext p (next p (record { pending = ps; rest = rest; frames = fs; scope = record { func = k; nest = n; env = env } }))
         (next p (record { pending = qs; rest = rest; frames = gs; scope = record { func = k; nest = n; env = other } }))
     pending_like rest fs gs r l done = next_op_like rest fs gs r l
-    pending_like rest fs gs r l (awaits at x xs m) = asks at _ _ xs _ _ (same _) (record { pending = m; rest = refl; read = r; frames = l; scope = record { func = refl; nest = refl; sees = h } })
+    pending_like rest fs gs r l (awaits at x xs m) = asks at _ _ xs _ _ (same _ tt) (record { pending = m; rest = refl; read = r; frames = l; scope = record { func = refl; nest = refl; sees = h } })
     pending_like rest fs gs r l (joining at a b j m) = asks at _ _ [] _ _ (joins_all a b j) (record { pending = m; rest = refl; read = r; frames = l; scope = record { func = refl; nest = refl; sees = h } })
     pending_like rest fs gs r l (failing at m) = caught_like at _ _ _ _ _ _ l
 

@@ -84,9 +84,16 @@ module _ (p : Program) where
     pub frames : LikeFrames t.scope.func t.frames u.frames
     pub scope : LikeScope t.scope u.scope
 
+  -- an asking in which there is no task
+  abbrev pub HasNoTask : Ask → Type 0
+  HasNoTask (Launches t r) = ⊥
+  HasNoTask (Enters loop) = ⊥
+  HasNoTask (JoinsAll loop) = ⊥
+  HasNoTask _ = Unit {0}
+
   -- the same asking, of such tasks
   pub data LikeAsk : Ask → Ask → Type 0 where
-    same : (a : Ask) → LikeAsk a a
+    same : (a : Ask) → HasNoTask a → LikeAsk a a
     launches : (t u : Task) (r : ℕ) → LikeTask t u → LikeAsk (Launches t r) (Launches u r)
     enters : (l m : Loop) → LikeLoop l m → LikeAsk (Enters l) (Enters m)
     joins_all : (l m : Loop) → LikeLoop l m → LikeAsk (JoinsAll l) (JoinsAll m)

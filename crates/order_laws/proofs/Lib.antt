@@ -1,0 +1,14 @@
+pub mod Held
+pub mod Quiet
+pub mod Lists
+pub mod Shared
+pub mod Acting
+pub mod Holding
+pub mod Found
+pub mod Mirror
+pub mod Acted
+pub mod Ran
+pub mod Law
+pub mod Same
+pub mod Meant
+pub mod Rows

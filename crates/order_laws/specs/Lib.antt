@@ -1,0 +1,2 @@
+pub mod SameEnd
+pub mod Worked
