@@ -1,11 +1,11 @@
 -- The inverse of lists, list by list.
-use Rattle.std.proofs.Common.{◌≡◌, inl, inr, ℕ, zero, suc, ◌+◌, ◌<◌, ◌≤◌, ◌==◌, ◌||◌, ◌&&◌, if◌then◌else◌, Bool, true, false, List, [], ◌∷◌, ◌++◌, length, replicate, drop, get_or, refl, sym, ap, ◌∙◌, arith, subst}
+use Rattle.std.proofs.Common.{◌≡◌, inl, inr, ℕ, zero, suc, ◌+◌, ◌<◌, ◌≤◌, ◌==◌, ◌||◌, ◌&&◌, if◌then◌else◌, Bool, true, false, Some, ◌-◌, List, [], ◌∷◌, ◌++◌, length, replicate, drop, get_or, refl, sym, ap, ◌∙◌, arith, subst}
 use Rattle.std.proofs.lemmas.List.{length-replicate}
-use Rattle.std.specs.Prelude.{slice_set, nat_lt}
+use Rattle.std.specs.Prelude.{slice_get, slice_set, nat_lt}
 use Rattle.std.proofs.lemmas.Bool.Decides.{eqb_tells, nat_tests}
 use Rattle.std.proofs.Math.ListN.{length-set}
-use Rattle.low_flow.specs.Lists.{has, list_at, IsInverse, with_place, with_places, with_lists}
-use Rattle.low_flow.proofs.Membership.{or_assoc, has_append, at_read, at_replicate, at_set, at_set_other}
+use Rattle.low_flow.specs.Lists.{has, list_at, IsInverse, is_last, with_last, with_place, with_places, with_lists}
+use Rattle.low_flow.proofs.Membership.{or_assoc, or_left, or_right, has_append, at_read, at_replicate, at_set, at_set_other}
 
 or_false : (b : Bool) → (b || false) ≡ b
 or_false true = refl
@@ -18,8 +18,8 @@ and_false false = refl
 length_place : (p x : ℕ) (inverse : List (List ℕ)) → length (with_place p x inverse) ≡ length inverse
 length_place p x inverse = step (nat_lt x (length inverse))
   where
-    step : (b : Bool) → length (if b then slice_set inverse x (list_at inverse x ++ p ∷ []) else inverse) ≡ length inverse
-    step true = length-set inverse x (list_at inverse x ++ p ∷ [])
+    step : (b : Bool) → length (if b then slice_set inverse x (with_last p (list_at inverse x)) else inverse) ≡ length inverse
+    step true = length-set inverse x (with_last p (list_at inverse x))
     step false = refl
 
 pub length_places : (p : ℕ) (xs : List ℕ) (inverse : List (List ℕ)) → length (with_places p xs inverse) ≡ length inverse
@@ -29,21 +29,41 @@ length_places p (x ∷ xs) inverse = length_places p xs (with_place p x inverse)
 has_one : (q p : ℕ) → has q (p ∷ []) ≡ (q == p)
 has_one q p = or_false (q == p)
 
+is_there : (p : ℕ) (xs : List ℕ) → is_last p xs ≡ true → has p xs ≡ true
+is_there p [] is = cc
+is_there p (x ∷ []) is = or_left (p == x) false (grind (arith, nat_tests))
+is_there p (x ∷ y ∷ xs) is = or_right (p == x) (has p (y ∷ xs)) (is_there p (y ∷ xs) is)
+
+last_has : (q p : ℕ) (xs : List ℕ) → has q (with_last p xs) ≡ (has q xs || (q == p))
+last_has q p xs = step (is_last p xs) refl
+  where
+    covers : (b : Bool) → b ≡ true → b ≡ (b || true)
+    covers true is = refl
+    covers false is = cc
+
+    step : (b : Bool) → is_last p xs ≡ b → has q (if b then xs else xs ++ p ∷ []) ≡ (has q xs || (q == p))
+    step false is = has_append q xs (p ∷ []) ∙ ap (λ b. has q xs || b) (has_one q p)
+    step true is = elim (eqb_tells q p) [
+      | inl same ↦
+          let there : has q xs ≡ true = subst (λ k. has k xs ≡ true) (sym same.1) (is_there p xs is) in
+          covers (has q xs) there ∙ sym (ap (λ b. has q xs || b) same.0)
+      | inr other ↦ sym (ap (λ b. has q xs || b) other.0 ∙ or_false (has q xs))
+    ]
+
 place_same : (p x q : ℕ) (inverse : List (List ℕ)) → x < length inverse → has q (list_at (with_place p x inverse) x) ≡ (has q (list_at inverse x) || (q == p))
 place_same p x q inverse inside = step (nat_lt x (length inverse)) (grind (arith, nat_tests))
   where
-    step : (b : Bool) → b ≡ true → has q (list_at (if b then slice_set inverse x (list_at inverse x ++ p ∷ []) else inverse) x) ≡ (has q (list_at inverse x) || (q == p))
+    step : (b : Bool) → b ≡ true → has q (list_at (if b then slice_set inverse x (with_last p (list_at inverse x)) else inverse) x) ≡ (has q (list_at inverse x) || (q == p))
     step true is =
-        ap (λ xs. has q xs) (at_set inverse x (list_at inverse x ++ p ∷ []) inside)
-        ∙ has_append q (list_at inverse x) (p ∷ [])
-        ∙ ap (λ b. has q (list_at inverse x) || b) (has_one q p)
+        ap (λ xs. has q xs) (at_set inverse x (with_last p (list_at inverse x)) inside)
+        ∙ last_has q p (list_at inverse x)
     step false is = cc
 
 place_other : (p x y : ℕ) (inverse : List (List ℕ)) → (x ≡ y → ⊥) → list_at (with_place p x inverse) y ≡ list_at inverse y
 place_other p x y inverse other = step (nat_lt x (length inverse))
   where
-    step : (b : Bool) → list_at (if b then slice_set inverse x (list_at inverse x ++ p ∷ []) else inverse) y ≡ list_at inverse y
-    step true = at_set_other inverse x y (list_at inverse x ++ p ∷ []) other
+    step : (b : Bool) → list_at (if b then slice_set inverse x (with_last p (list_at inverse x)) else inverse) y ≡ list_at inverse y
+    step true = at_set_other inverse x y (with_last p (list_at inverse x)) other
     step false = refl
 
 place_has : (p x y q : ℕ) (inverse : List (List ℕ)) → y < length inverse → has q (list_at (with_place p x inverse) y) ≡ (has q (list_at inverse y) || ((q == p) && (y == x)))
@@ -123,13 +143,13 @@ is_inverse lists len =
           ∙ (let e : 0 + p ≡ p = omega arith in subst (λ n. held 0 n x lists ≡ has x (list_at lists p)) e (held_at 0 p x lists));
     }
 
-pub placed : (p x : ℕ) (inverse : List (List ℕ)) (old new : List ℕ) → x < length inverse → old ≡ get_or inverse x old → new ≡ old ++ p ∷ [] → slice_set inverse x new ≡ with_place p x inverse
+pub placed : (p x : ℕ) (inverse : List (List ℕ)) (old new : List ℕ) → x < length inverse → old ≡ get_or inverse x old → new ≡ with_last p old → slice_set inverse x new ≡ with_place p x inverse
 placed p x inverse old new inside read pushed = step (nat_lt x (length inverse)) (grind (arith, nat_tests))
   where
-    here : new ≡ list_at inverse x ++ p ∷ []
-    here = pushed ∙ ap (λ xs. xs ++ p ∷ []) (at_read inverse x old inside read)
+    here : new ≡ with_last p (list_at inverse x)
+    here = pushed ∙ ap (λ xs. with_last p xs) (at_read inverse x old inside read)
 
-    step : (b : Bool) → b ≡ true → slice_set inverse x new ≡ (if b then slice_set inverse x (list_at inverse x ++ p ∷ []) else inverse)
+    step : (b : Bool) → b ≡ true → slice_set inverse x new ≡ (if b then slice_set inverse x (with_last p (list_at inverse x)) else inverse)
     step true is = ap (λ xs. slice_set inverse x xs) here
     step false is = cc
 
@@ -143,3 +163,18 @@ pub lists_end : (lists : List (List ℕ)) (n len : ℕ) (inverse : List (List �
 lists_end lists n len inverse past is =
     let e : inverse ≡ with_lists 0 lists (replicate len []) = sym (ap (λ rest. with_lists n rest inverse) (drop_end n lists past)) ∙ is in
     subst (λ v. IsInverse lists len v) (sym e) (is_inverse lists len)
+
+pub last_none : (xs : List ℕ) (p : ℕ) → xs ≡ [] → is_last p xs ≡ false
+last_none [] p none = refl
+last_none (x ∷ xs) p none = cc
+
+last_at : (xs : List ℕ) (k x p : ℕ) → suc k ≡ length xs → slice_get xs k ≡ Some x → (x == p) ≡ is_last p xs
+last_at [] k x p long is = cc
+last_at (y ∷ []) zero x p long is = (let same : x ≡ y = cc in ap (λ n. n == p) same)
+last_at (y ∷ []) (suc k) x p long is = absurd (omega (arith, long))
+last_at (y ∷ z ∷ ys) zero x p long is = absurd (omega (arith, long))
+last_at (y ∷ z ∷ ys) (suc k) x p long is = last_at (z ∷ ys) k x p (omega (arith, long)) is
+
+pub last_some : (xs : List ℕ) (x p : ℕ) → slice_get xs (length xs - 1) ≡ Some x → (x == p) ≡ is_last p xs
+last_some [] x p is = cc
+last_some (y ∷ ys) x p is = last_at (y ∷ ys) (length (y ∷ ys) - 1) x p (omega arith) is

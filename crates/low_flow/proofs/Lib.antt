@@ -2,3 +2,4 @@ pub mod Membership
 pub mod InverseLemmas
 pub mod SearchLemmas
 pub mod PathLemmas
+pub mod AboveLemmas

@@ -19,8 +19,17 @@ pub record IsInverse (lists : List (List ℕ)) (len : ℕ) (inverse : List (List
 
 -- ---- the inverse, list by list
 
+abbrev pub is_last : ℕ → List ℕ → Bool
+is_last p [] = false
+is_last p (x ∷ []) = x == p
+is_last p (x ∷ y ∷ xs) = is_last p (y ∷ xs)
+
+-- a place that was the last one added isn't added once more
+abbrev pub with_last : ℕ → List ℕ → List ℕ
+with_last p xs = if is_last p xs then xs else xs ++ p ∷ []
+
 abbrev pub with_place : ℕ → ℕ → List (List ℕ) → List (List ℕ)
-with_place p x inverse = if nat_lt x (length inverse) then slice_set inverse x (list_at inverse x ++ p ∷ []) else inverse
+with_place p x inverse = if nat_lt x (length inverse) then slice_set inverse x (with_last p (list_at inverse x)) else inverse
 
 abbrev pub with_places : ℕ → List ℕ → List (List ℕ) → List (List ℕ)
 with_places p [] inverse = inverse

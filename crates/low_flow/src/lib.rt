@@ -3,11 +3,15 @@
 //! blocks can be asked about.
 #![tactic(auto)]
 
+mod above;
 mod assigned;
 mod marking;
+mod node;
+mod order;
 mod places;
 #[cfg(test)]
 mod tests;
+mod tree;
 
 pub use assigned::all_assigned;
 pub use places::inverse;

@@ -58,10 +58,60 @@ fn ring(alloc: Global, len: usize, first: usize) -> Result<bool, AllocError> {
     all_assigned(alloc, &targets, &assigns, &needs, len)
 }
 
+/// Blocks in a row: the first one assigns all registers, and the last one needs them.
+fn row(alloc: Global, len: usize, registers: usize) -> Result<bool, AllocError> {
+    let mut targets = Vec::new(alloc);
+    let mut assigns = Vec::new(alloc);
+    let mut needs = Vec::new(alloc);
+    let mut all = Items::new(alloc);
+    for register in 0..registers {
+        all.push(register)?;
+    }
+    for block in 0..len {
+        targets.push(Items::from_slice(alloc, &[block + 1])?)?;
+        assigns.push(Items::new(alloc))?;
+        needs.push(Items::new(alloc))?;
+    }
+    targets.push(Items::new(alloc))?;
+    assigns.push(Items::new(alloc))?;
+    needs.push(Items::from_slice(alloc, all.as_slice())?)?;
+    assigns[0] = all;
+    all_assigned(alloc, &targets, &assigns, &needs, registers)
+}
+
+/// A loop of three blocks that is entered at two of them, as often, and then a block that needs what the first assigned.
+fn tangled(alloc: Global, len: usize, registers: usize) -> Result<bool, AllocError> {
+    let mut targets = Vec::new(alloc);
+    let mut assigns = Vec::new(alloc);
+    let mut needs = Vec::new(alloc);
+    let mut all = Items::new(alloc);
+    for register in 0..registers {
+        all.push(register)?;
+    }
+    for block in 0..len {
+        let next = block + 1;
+        let second = if block % 3 == 0 {
+            block + 2
+        } else {
+            block / 3 * 3 + 1
+        };
+        targets.push(Items::from_slice(alloc, &[next, second])?)?;
+        assigns.push(Items::new(alloc))?;
+        needs.push(Items::new(alloc))?;
+    }
+    targets.push(Items::new(alloc))?;
+    assigns.push(Items::new(alloc))?;
+    needs.push(Items::from_slice(alloc, all.as_slice())?)?;
+    assigns[0] = all;
+    all_assigned(alloc, &targets, &assigns, &needs, registers)
+}
+
 #[test]
 fn ten_thousand_blocks_are_quick(rt: HostRuntime) -> Result<(), Fail> {
     let alloc = rt.alloc();
     assert!(rt; ring(alloc, 10_000, 10_000)?);
     assert!(rt; !ring(alloc, 10_000, 5)?);
+    assert!(rt; row(alloc, 10_000, 65_536)?);
+    assert!(rt; tangled(alloc, 9_999, 65_536)?);
     Ok(())
 }

@@ -33,11 +33,19 @@ abbrev pub free_by : List Bool → List Instr → List ℕ
 free_by marks [] = []
 free_by marks (i ∷ instrs) = free_of marks i.operands ++ free_by (with_given i.results marks) instrs
 
-abbrev pub given_at_start : LowFunc → Block → List Bool
-given_at_start f b = with_given b.params (with_given f.params (replicate (length f.regs) false))
+-- the parameters of a function are given in all of its blocks
+abbrev pub params_given : LowFunc → List Bool
+params_given f = with_given f.params (replicate (length f.regs) false)
 
-abbrev pub block_frees : LowFunc → Block → List ℕ
-block_frees f b =
-    let marks : List Bool = given_at_start f b in
+abbrev pub given_at_start : LowFunc → Block → List Bool
+given_at_start f b = with_given b.params (params_given f)
+
+-- what a block needs, with these registers given before it
+abbrev pub frees_from : List Bool → Block → List ℕ
+frees_from given b =
+    let marks : List Bool = with_given b.params given in
     let last : List Bool = with_results b.instrs marks in
     (free_by marks b.instrs ++ free_of last b.term.instr.operands) ++ free_args last b.term.targets
+
+abbrev pub block_frees : LowFunc → Block → List ℕ
+block_frees f b = frees_from (params_given f) b

@@ -1,5 +1,5 @@
 -- What instructions do to the references that a frame owns.
-use Rattle.std.specs.Prelude.{ℕ, ◌||◌, if◌then◌else◌, Bool, List, [], ◌∷◌, ◌++◌, take}
+use Rattle.std.specs.Prelude.{ℕ, zero, suc, Option, Some, None, ◌||◌, if◌then◌else◌, Bool, List, [], ◌∷◌, ◌++◌, take}
 use Rattle.ir_forms.specs.declared.types.Ty.{Ty}
 use Rattle.ir_verify.specs.Types.{is_awaitable, is_group}
 use Rattle.low_forms.specs.declared.code.Reg.{Reg}
@@ -8,11 +8,12 @@ use Rattle.low_forms.specs.declared.code.LowAttr.TheVariants.{Count}
 use Rattle.low_forms.specs.declared.code.Instr.{Instr}
 use Rattle.low_forms.specs.declared.code.Target.{Target}
 use Rattle.low_forms.specs.declared.code.Term.{Term}
+use Rattle.low_forms.specs.declared.code.Block.{Block}
 use Rattle.low_forms.specs.declared.code.LowFunc.{LowFunc}
 use Rattle.low_forms.specs.declared.row.Change.{Change}
 use Rattle.low_forms.specs.declared.row.Change.TheVariants as change
 use Rattle.low_forms.specs.Rows.{row_of}
-use Rattle.low_forms.specs.Registers.{reg_type, on_type}
+use Rattle.low_forms.specs.Registers.{reg_type, on_type, block_at}
 use Rattle.low_forms.specs.Assigned.{numbers}
 
 abbrev pub is_object : Ty → Bool
@@ -42,6 +43,21 @@ takes_at_end f t = takes f t.instr ++ (if (row_of t.instr.kind).takes then refer
 -- a reference of each of these comes to the frame
 abbrev pub gives : LowFunc → Instr → List ℕ
 gives f i = if (row_of i.kind).gives then references f i.results else []
+
+-- the parameters of the block that a target leads to
+abbrev pub params_of : Option Block → List Reg
+params_of None = []
+params_of (Some b) = b.params
+
+abbrev pub first_params : LowFunc → List Target → List Reg
+first_params f [] = []
+first_params f (t ∷ targets) = params_of (block_at f t.block)
+
+-- A reference of each of these comes to the frame with the k-th target. The results of a call are the parameters of the
+-- block where it goes on, which is the first.
+abbrev pub gives_at_end : LowFunc → Term → ℕ → List ℕ
+gives_at_end f t zero = if (row_of t.instr.kind).gives then references f (first_params f t.targets) else []
+gives_at_end f t (suc k) = []
 
 abbrev pub count_of : LowAttr → ℕ
 count_of (Count n) = n

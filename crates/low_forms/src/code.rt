@@ -4,16 +4,16 @@ use lists::Items;
 
 /// A register of a function. Registers are numbered from 0 in the order in which the text defines them, the function's
 /// parameters first.
-#[derive(Clone, Copy, PartialEq, Eq, Debug)]
+#[derive(Clone, Copy, PartialEq, Eq)]
 pub struct Reg(pub u32);
 
 /// A block of a function, by its place.
-#[derive(Clone, Copy, PartialEq, Eq, Debug)]
+#[derive(Clone, Copy, PartialEq, Eq)]
 pub struct BlockNo(pub u32);
 
 /// A kind of instruction or terminator: one of the operations of the table, or one of the two high rows, which stand
 /// for a launch and for an await until coroutines are made of them, and have no text.
-#[derive(Clone, Copy, PartialEq, Eq, Debug)]
+#[derive(Clone, Copy, PartialEq, Eq)]
 pub enum LowKind {
     Row(OpKind),
     Launch,
@@ -22,7 +22,7 @@ pub enum LowKind {
 
 /// What an instruction carries beside its registers: a literal as it is written, a truth, a predicate, a count of
 /// references, or the function that it calls, by its place in the module.
-#[derive(Clone, Copy, PartialEq, Eq, Debug)]
+#[derive(Clone, Copy)]
 pub enum LowAttr {
     None,
     Literal { negative: bool, magnitude: u64 },

@@ -1,7 +1,7 @@
 //! What blocks assign, and what they need from the blocks before them.
 ghost use Rattle.std.specs.Prelude.{◌≡◌, OnOk, IfOk, ◌++◌, map, slice_get};
 ghost use Rattle.low_forms.specs.Assigned.{numbers, assigned_by, block_assigns, assigns};
-ghost use Rattle.low_forms.specs.Given.{is_free, with_one, with_given, free_of, free_args, free_by, with_results, block_frees};
+ghost use Rattle.low_forms.specs.Given.{is_free, with_one, with_given, free_of, free_args, free_by, with_results, params_given, frees_from, block_frees};
 
 use crate::code::{Block, Instr, LowFunc, Reg, Target};
 use lists::Items;
@@ -107,13 +107,21 @@ fn push_needs(
     Ok(())
 }
 
-/// What a block needs from the blocks before it.
-fn block_needs(alloc: Global, func: &LowFunc, block: &Block) -> Result<Items<usize>, AllocError>
-    ensures { IfOk result (λ list. list ≡ block_frees func.now block.now) }
+/// The marks of a function's parameters.
+fn params_given(alloc: Global, func: &LowFunc) -> Result<Vec<bool>, AllocError>
+    ensures { IfOk result (λ marks. marks.items ≡ params_given func.now) }
 {
-    let mut list = Items::new(alloc);
     let mut marks = vec![in alloc; false; func.regs.len()]?;
     give(&mut marks, func.params.as_slice());
+    Ok(marks)
+}
+
+/// What a block needs from the blocks before it, where these registers are given.
+fn block_needs(alloc: Global, given: &[bool], block: &Block) -> Result<Items<usize>, AllocError>
+    ensures { IfOk result (λ list. list ≡ frees_from given.now block.now) }
+{
+    let mut list = Items::new(alloc);
+    let mut marks = Vec::from_slice(alloc, given)?;
     give(&mut marks, block.params.as_slice());
     push_needs(&mut list, &mut marks, block.instrs.as_slice())?;
     push_free(&mut list, &marks, block.term.instr.operands.as_slice())?;
@@ -125,9 +133,10 @@ fn block_needs(alloc: Global, func: &LowFunc, block: &Block) -> Result<Items<usi
 pub(crate) fn needs(alloc: Global, func: &LowFunc) -> Result<Vec<Items<usize>>, AllocError>
     ensures { IfOk result (λ lists. lists.items ≡ map (block_frees func.now) func.now.blocks) }
 {
+    let given = params_given(alloc, func)?;
     let mut lists = Vec::new(alloc);
     for block in func.blocks.as_slice() {
-        lists.push(block_needs(alloc, func, block)?)?;
+        lists.push(block_needs(alloc, &given, block)?)?;
     }
     Ok(lists)
 }
