@@ -8,4 +8,4 @@ mod shapes;
 
 pub use faults::{ArgsBad, BadArgs};
 pub use fitting::fit_args;
-pub use reader::read_args;
+pub use reader::{read_args, read_bytes};

@@ -491,6 +491,18 @@ pub fn read_args(alloc: Global, text: &str) -> Result<Items<Arg>, ArgsBad>
     ensures ok { IfOk result (λ args. spec.verdict text.now ≡ Whole args) }
     ensures err { IfErr result (λ fault. IsBad (spec.verdict text.now) fault) }
 {
+    read_bytes(alloc, text.as_bytes())
+}
+
+/// The same, of a text that is given as its bytes.
+///
+/// # Errors
+///
+/// Those of `read_args`.
+pub fn read_bytes(alloc: Global, text: &[u8]) -> Result<Items<Arg>, ArgsBad>
+    ensures ok { IfOk result (λ args. spec.verdict text.now ≡ Whole args) }
+    ensures err { IfErr result (λ fault. IsBad (spec.verdict text.now) fault) }
+{
     let mut front = Front {
         args: Items::new(alloc),
         dims: Items::new(alloc),
@@ -498,7 +510,7 @@ pub fn read_args(alloc: Global, text: &str) -> Result<Items<Arg>, ArgsBad>
         values: Items::new(alloc),
         part: Part::Start,
     };
-    match front.take_all(alloc, text.as_bytes())? {
+    match front.take_all(alloc, text)? {
         Some(at) => Err(ArgsBad::Byte { at }),
         None => {
             let Front { args, .. } = front;

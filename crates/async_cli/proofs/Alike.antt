@@ -40,6 +40,7 @@ input_stops limit source bytes stop.Words told decided why = absurd why
 input_stops limit source bytes (stop.Module fault) told decided why = absurd why
 input_stops limit source bytes stop.NoEntry told decided why = absurd why
 input_stops limit source bytes (stop.EntryType op) told decided why = absurd why
+input_stops limit source bytes (stop.Args at) told decided why = absurd why
 input_stops limit source bytes (stop.NotYet op) told decided why = absurd why
 input_stops limit source bytes (stop.Short parked) told decided why = absurd why
 input_stops limit source bytes (stop.Spent entries) told decided why = absurd why
@@ -69,6 +70,7 @@ run_why f journal (stop.TooLong limit) decided why = absurd why
 run_why f journal (stop.Module fault) decided why = absurd why
 run_why f journal stop.NoEntry decided why = absurd why
 run_why f journal (stop.EntryType op) decided why = absurd why
+run_why f journal (stop.Args at) decided why = absurd why
 run_why f journal (stop.NotYet op) decided why = absurd why
 run_why f journal (stop.Write written) decided why = absurd why
 
@@ -119,8 +121,8 @@ runs_alike f asked journal (Err s) (Err t) a b =
 -- the entry isn't there, or the run of it gives this
 abbrev pub TextGives : List ℕ → Asked → List Entry → Result (List ℕ) Stop → Type 0
 TextGives bytes asked journal r =
-    ((s : Stop) × (EntryGives bytes asked.entry (Err s) × (r ≡ Err s)))
-    ⊎ ((f : Func) × (EntryGives bytes asked.entry (Ok f) × RunGives f asked journal r))
+    ((s : Stop) × (EntryGives bytes asked (Err s) × (r ≡ Err s)))
+    ⊎ ((f : Func) × (EntryGives bytes asked (Ok f) × RunGives f asked journal r))
 
 -- the bytes are too many, or their text gives this
 abbrev pub BytesGive : List ℕ → Asked → List Entry → Result (List ℕ) Stop → Type 0
@@ -139,15 +141,15 @@ texts_alike law bytes asked journal r q a b =
     elim a [
       | inl x ↦ elim b [
         | inl y ↦
-            let both : Err x.0 ≡ Err y.0 = entries_alike law bytes asked.entry (Err x.0) (Err y.0) x.1.0 y.1.0 in
+            let both : Err x.0 ≡ Err y.0 = entries_alike law bytes asked (Err x.0) (Err y.0) x.1.0 y.1.0 in
             let stops : x.0 ≡ y.0 = cc both in
             x.1.1 ∙ ap Err stops ∙ sym y.1.1
-        | inr y ↦ absurd (cc (entries_alike law bytes asked.entry (Err x.0) (Ok y.0) x.1.0 y.1.0))
+        | inr y ↦ absurd (cc (entries_alike law bytes asked (Err x.0) (Ok y.0) x.1.0 y.1.0))
       ]
       | inr x ↦ elim b [
-        | inl y ↦ absurd (cc (entries_alike law bytes asked.entry (Ok x.0) (Err y.0) x.1.0 y.1.0))
+        | inl y ↦ absurd (cc (entries_alike law bytes asked (Ok x.0) (Err y.0) x.1.0 y.1.0))
         | inr y ↦
-            let both : Ok x.0 ≡ Ok y.0 = entries_alike law bytes asked.entry (Ok x.0) (Ok y.0) x.1.0 y.1.0 in
+            let both : Ok x.0 ≡ Ok y.0 = entries_alike law bytes asked (Ok x.0) (Ok y.0) x.1.0 y.1.0 in
             let same : x.0 ≡ y.0 = cc both in
             runs_alike y.0 asked journal r q (subst (λ h. RunGives h asked journal r) same x.1.1) y.1.1
       ]
@@ -189,10 +191,10 @@ abbrev Gives : List (List ℕ) → List ℕ → List Entry → Option Stop → L
 Gives words bytes journal a t = (r : Result (List ℕ) Stop) × (WordsGive words bytes journal r × IsAnswerOf words a t r)
 
 entered : (given : Given) (bytes : List ℕ) (asked : Asked) (f : Func) → given.source.left ≡ Some bytes → Enters given asked f →
-    (length bytes ≤ text_limit) × EntryGives bytes asked.entry (Ok f)
+    (length bytes ≤ text_limit) × EntryGives bytes asked (Ok f)
 entered given bytes asked f told enters =
     let input = input_gives text_limit given.source bytes enters.text told enters.input in
-    (input.1, subst (λ b. HasEntry b asked.entry f) input.0 enters.found)
+    (input.1, subst (λ b. HasEntry b asked f) input.0 enters.found)
 
 caused : (given : Given) (bytes : List ℕ) (journal : List Entry) (s : Stop) → given.source.left ≡ Some bytes → is_decided s ≡ true →
     Causes given journal s → WordsGive given.words bytes journal (Err s)
@@ -201,7 +203,7 @@ caused given bytes journal s told decided (Causes.input stop asked empty asks wh
     let input = input_stops text_limit given.source bytes s told decided why in inr (asked, (asks, inl (input.1, ap Err input.0)))
 caused given bytes journal s told decided (Causes.entry stop asked text empty asks input why) =
     let read = input_gives text_limit given.source bytes text told input in
-    inr (asked, (asks, inr (read.1, inl (s, ((decided, subst (λ b. TextStops b asked.entry s) read.0 why), refl)))))
+    inr (asked, (asks, inr (read.1, inl (s, ((decided, subst (λ b. TextStops b asked s) read.0 why), refl)))))
 caused given bytes journal _ told decided (Causes.no_memory empty) = absurd (cc decided)
 caused given bytes journal s told decided (Causes.run stop asked f enters why) =
     let read = entered given bytes asked f told enters in

@@ -7,8 +7,11 @@ use Rattle.ir_verify.specs.declared.entry.EntryFault.{EntryFault}
 use Rattle.ir_verify.specs.declared.entry.EntryFault.TheVariants.{EntryType}
 use Rattle.ir_verify.specs.Entry.{entry_from, is_refused_entry}
 use Rattle.ir_forms.specs.declared.ops.Module.{Module}
-use Rattle.async_cli.specs.NotYet.{first_not_yet}
-use Rattle.async_cli.specs.Answers.{entry_of, IsEntry}
+use Rattle.arguments.specs.Fits.{Fitted, Wrong, fitted_args}
+use Rattle.async_cli.specs.declared.stops.Stop.{Stop}
+use Rattle.async_cli.specs.declared.stops.Stop.TheVariants as stop
+use Rattle.async_cli.specs.Words.{Asked}
+use Rattle.async_cli.specs.Answers.{entry_of, types_of, Names, FindStops, FitStops, EntryStops}
 
 -- a function at so many places behind the place k
 abbrev pub IsThere : ℕ → List Func → ℕ → Type 0
@@ -51,12 +54,45 @@ no_function shown program name number same found none =
     let both : None ≡ Some there.0 = sym missing ∙ there.1 in
     absurd (cc both)
 
-pub is_entry : (shown program : Module) (name : List ℕ) (number : FuncNo) (entry : Func) → shown ≡ program →
-    Ok number ≡ entry_of program name → None ≡ first_not_yet shown → Some entry ≡ slice_get shown.funcs number.0 →
-    IsEntry program name entry
-is_entry shown program name number entry same found runs is = record {
-  number = number;
-  found = sym found;
-  is = ap (λ (m : Module). slice_get m.funcs number.0) (sym same) ∙ sym is;
-  runs = ap first_not_yet (sym same) ∙ sym runs;
-}
+pub is_found : (shown program : Module) (name : List ℕ) (number : FuncNo) (entry : Func) → shown ≡ program →
+    Ok number ≡ entry_of program name → Some entry ≡ slice_get shown.funcs number.0 →
+    (n : FuncNo) × ((entry_of program name ≡ Ok n) × (slice_get program.funcs n.0 ≡ Some entry))
+is_found shown program name number entry same found is =
+    (number, (sym found, ap (λ (m : Module). slice_get m.funcs number.0) (sym same) ∙ sym is))
+
+abbrev Found : Module → Asked → Func → Type 0
+Found program asked entry = (n : FuncNo) × ((entry_of program asked.entry ≡ Ok n) × (slice_get program.funcs n.0 ≡ Some entry))
+
+pub is_named : (program : Module) (asked : Asked) (entry : Func) (fitted : Fitted) → Found program asked entry →
+    fitted_args (types_of entry) asked.args ≡ fitted → Names program asked entry fitted
+is_named program asked entry fitted found fits = record { number = found.0; found = found.1.0; is = found.1.1; fits = fits }
+
+-- why an entry isn't found is why it can't be run
+pub find_stops : (program : Module) (asked : Asked) (s : Stop) → FindStops program asked.entry s → EntryStops program asked s
+find_stops program asked stop.NoEntry why = why
+find_stops program asked (stop.EntryType op) why = why
+find_stops program asked stop.OutOfMemory why = tt
+find_stops program asked stop.Words why = absurd why
+find_stops program asked stop.Read why = absurd why
+find_stops program asked (stop.TooLong limit) why = absurd why
+find_stops program asked (stop.Module fault) why = absurd why
+find_stops program asked (stop.Args at) why = absurd why
+find_stops program asked (stop.NotYet op) why = absurd why
+find_stops program asked (stop.Short parked) why = absurd why
+find_stops program asked (stop.Spent entries) why = absurd why
+find_stops program asked (stop.Write written) why = absurd why
+
+-- and so with arguments that don't fit
+pub fit_stops : (program : Module) (asked : Asked) (entry : Func) (s : Stop) → Found program asked entry → FitStops entry asked.args s → EntryStops program asked s
+fit_stops program asked entry (stop.Args at) found why = (entry, is_named program asked entry (Wrong at) found why)
+fit_stops program asked entry stop.OutOfMemory found why = tt
+fit_stops program asked entry stop.NoEntry found why = absurd why
+fit_stops program asked entry (stop.EntryType op) found why = absurd why
+fit_stops program asked entry stop.Words found why = absurd why
+fit_stops program asked entry stop.Read found why = absurd why
+fit_stops program asked entry (stop.TooLong limit) found why = absurd why
+fit_stops program asked entry (stop.Module fault) found why = absurd why
+fit_stops program asked entry (stop.NotYet op) found why = absurd why
+fit_stops program asked entry (stop.Short parked) found why = absurd why
+fit_stops program asked entry (stop.Spent entries) found why = absurd why
+fit_stops program asked entry (stop.Write written) found why = absurd why

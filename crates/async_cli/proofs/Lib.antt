@@ -2,6 +2,8 @@ pub mod Alike
 pub mod Driving
 pub mod Entries
 pub mod Modules
+pub mod OneRace
+pub mod OneRun
 pub mod Places
 pub mod Stuck
 pub mod Telling

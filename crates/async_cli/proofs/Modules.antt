@@ -1,6 +1,8 @@
 -- A text gives one module that breaks no rule, or one cause why it gives none; and so with the entry of a name.
 use Rattle.std.proofs.Common.{◌≡◌, ◌<◌, ℕ, List, Bool, true, false, if◌then◌else◌, ◌==◌, Option, Some, None, Result, Ok, Err, slice_get, refl, sym, ap, subst, ◌∙◌, inl, inr, arith}
 use Rattle.std.proofs.lemmas.Bool.{cases_order}
+use Rattle.arguments.specs.Fits.{Fitted, Fits, Wrong, fitted_args}
+use Rattle.ir_forms.specs.declared.args.Arg.{Arg}
 use Rattle.ir_forms.specs.declared.ops.Func.{Func}
 use Rattle.ir_forms.specs.declared.ops.Module.{Module}
 use Rattle.ir_forms.specs.declared.runs.FuncNo.{FuncNo}
@@ -21,9 +23,10 @@ use Rattle.async_cli.specs.declared.stops.Stop.{Stop}
 use Rattle.async_cli.specs.declared.stops.Stop.TheVariants as stop
 use Rattle.async_cli.specs.declared.stops.ModuleFault.{ModuleFault}
 use Rattle.async_cli.specs.declared.stops.ModuleFault.TheVariants.{Text, Verify}
-use Rattle.async_cli.specs.Answers.{ReadsModule, IsAccepted, ModuleStops, entry_of, IsEntry, HasEntry, EntryStops, TextStops}
+use Rattle.async_cli.specs.Answers.{ReadsModule, IsAccepted, ModuleStops, entry_of, types_of, Names, IsEntry, HasEntry, EntryStops, TextStops}
 use Rattle.async_cli.specs.Laws.{is_decided}
 use Rattle.async_cli.specs.NotYet.{first_not_yet}
+use Rattle.async_cli.specs.Words.{Asked}
 
 -- ---- the module that is read
 
@@ -129,6 +132,7 @@ module_why bytes stop.Read decided why = absurd why
 module_why bytes (stop.TooLong limit) decided why = absurd why
 module_why bytes stop.NoEntry decided why = absurd why
 module_why bytes (stop.EntryType op) decided why = absurd why
+module_why bytes (stop.Args at) decided why = absurd why
 module_why bytes (stop.NotYet op) decided why = absurd why
 module_why bytes (stop.Short parked) decided why = absurd why
 module_why bytes (stop.Spent entries) decided why = absurd why
@@ -177,16 +181,32 @@ abbrev not_yet : Option ℕ → Option Stop
 not_yet None = None
 not_yet (Some op) = Some (stop.NotYet op)
 
-abbrev entry_stop : Result FuncNo EntryFault → Option ℕ → Option Stop
-entry_stop (Err entry_fault.NoEntry) op = Some stop.NoEntry
-entry_stop (Err (entry_fault.EntryType at)) op = Some (stop.EntryType at)
-entry_stop (Ok number) op = not_yet op
+abbrev fit_stop : Fitted → Option ℕ → Option Stop
+fit_stop (Wrong at) op = Some (stop.Args at)
+fit_stop (Fits values) op = not_yet op
 
-entry_why : (p : Module) (name : List ℕ) (s : Stop) → is_decided s ≡ true → EntryStops p name s →
-    entry_stop (entry_of p name) (first_not_yet p) ≡ Some s
-entry_why p name stop.NoEntry decided why = ap (λ e. entry_stop e (first_not_yet p)) why
-entry_why p name (stop.EntryType op) decided why = ap (λ e. entry_stop e (first_not_yet p)) why
-entry_why p name (stop.NotYet op) decided why = ap (λ e. entry_stop e (first_not_yet p)) why.0.1 ∙ ap not_yet why.1
+abbrev func_stop : List Arg → Option Func → Option ℕ → Option Stop
+func_stop args None op = None
+func_stop args (Some f) op = fit_stop (fitted_args (types_of f) args) op
+
+abbrev entry_stop : Module → List Arg → Result FuncNo EntryFault → Option Stop
+entry_stop p args (Err entry_fault.NoEntry) = Some stop.NoEntry
+entry_stop p args (Err (entry_fault.EntryType at)) = Some (stop.EntryType at)
+entry_stop p args (Ok number) = func_stop args (slice_get p.funcs number.0) (first_not_yet p)
+
+-- what the entry and its arguments give
+named_stop : (p : Module) (asked : Asked) (f : Func) (fitted : Fitted) → Names p asked f fitted →
+    entry_stop p asked.args (entry_of p asked.entry) ≡ fit_stop fitted (first_not_yet p)
+named_stop p asked f fitted names =
+    ap (entry_stop p asked.args) names.found ∙ ap (λ o. func_stop asked.args o (first_not_yet p)) names.is
+    ∙ ap (λ o. fit_stop o (first_not_yet p)) names.fits
+
+entry_why : (p : Module) (asked : Asked) (s : Stop) → is_decided s ≡ true → EntryStops p asked s →
+    entry_stop p asked.args (entry_of p asked.entry) ≡ Some s
+entry_why p name stop.NoEntry decided why = ap (entry_stop p name.args) why
+entry_why p name (stop.EntryType op) decided why = ap (entry_stop p name.args) why
+entry_why p name (stop.Args at) decided why = named_stop p name why.0 (Wrong at) why.1
+entry_why p name (stop.NotYet op) decided why = named_stop p name why.0.0 (Fits why.0.1.0) why.0.1.1 ∙ ap not_yet why.1
 entry_why p name stop.OutOfMemory decided why = absurd (cc decided)
 entry_why p name stop.Words decided why = absurd why
 entry_why p name stop.Read decided why = absurd why
@@ -196,21 +216,21 @@ entry_why p name (stop.Short parked) decided why = absurd why
 entry_why p name (stop.Spent entries) decided why = absurd why
 entry_why p name (stop.Write written) decided why = absurd why
 
-entry_runs : (p : Module) (name : List ℕ) (f : Func) → IsEntry p name f → entry_stop (entry_of p name) (first_not_yet p) ≡ None
-entry_runs p name f is = ap (λ e. entry_stop e (first_not_yet p)) is.found ∙ ap not_yet is.runs
+entry_runs : (p : Module) (asked : Asked) (f : Func) → IsEntry p asked f → entry_stop p asked.args (entry_of p asked.entry) ≡ None
+entry_runs p name f is = named_stop p name f (Fits is.values) is.names ∙ ap not_yet is.runs
 
-one_func : (p : Module) (name : List ℕ) (f g : Func) → IsEntry p name f → IsEntry p name g → f ≡ g
+one_func : (p : Module) (name : Asked) (f g : Func) → IsEntry p name f → IsEntry p name g → f ≡ g
 one_func p name f g a b =
-    let numbers : a.number ≡ b.number = (let both : Ok a.number ≡ Ok b.number = sym a.found ∙ b.found in cc both) in
-    let both : Some f ≡ Some g = sym a.is ∙ ap (λ (n : FuncNo). slice_get p.funcs n.0) numbers ∙ b.is in
+    let numbers : a.names.number ≡ b.names.number = (let both : Ok a.names.number ≡ Ok b.names.number = sym a.names.found ∙ b.names.found in cc both) in
+    let both : Some f ≡ Some g = sym a.names.is ∙ ap (λ (n : FuncNo). slice_get p.funcs n.0) numbers ∙ b.names.is in
     cc both
 
 -- what a text and a name give
-abbrev pub EntryGives : List ℕ → List ℕ → Result Func Stop → Type 0
+abbrev pub EntryGives : List ℕ → Asked → Result Func Stop → Type 0
 EntryGives bytes name (Ok f) = HasEntry bytes name f
 EntryGives bytes name (Err s) = (is_decided s ≡ true) × TextStops bytes name s
 
-entry_not_stopped : OneAnswer → (bytes name : List ℕ) (f : Func) (s : Stop) → HasEntry bytes name f → is_decided s ≡ true →
+entry_not_stopped : OneAnswer → (bytes : List ℕ) (name : Asked) (f : Func) (s : Stop) → HasEntry bytes name f → is_decided s ≡ true →
     TextStops bytes name s → ⊥
 entry_not_stopped law bytes name f s a s_is b =
     elim b [
@@ -222,7 +242,7 @@ entry_not_stopped law bytes name f s a s_is b =
           cc both
     ]
 
-pub entries_alike : OneAnswer → (bytes name : List ℕ) (r q : Result Func Stop) → EntryGives bytes name r → EntryGives bytes name q → r ≡ q
+pub entries_alike : OneAnswer → (bytes : List ℕ) (name : Asked) (r q : Result Func Stop) → EntryGives bytes name r → EntryGives bytes name q → r ≡ q
 entries_alike law bytes name (Ok f) (Ok g) a b =
     let same : b.0 ≡ a.0 = one_accepted law bytes b.0 a.0 b.1.0 a.1.0 in
     ap Ok (one_func a.0 name f g a.1.1 (subst (λ m. IsEntry m name g) same b.1.1))

@@ -1,5 +1,5 @@
 -- How the parts of a call make its answer.
-use Rattle.std.proofs.Common.{◌≡◌, ◌≤◌, ℕ, List, [], length, Option, Some, None, Result, Ok, Err, MatchResult, Vec, Global, refl, sym, ap, subst, inr, ◌∙◌}
+use Rattle.std.proofs.Common.{◌≡◌, ◌≤◌, ℕ, Bool, true, false, if◌then◌else◌, List, [], ◌∷◌, length, option_and_then, Option, Some, None, Result, Ok, Err, MatchResult, Vec, Global, refl, sym, ap, subst, inr, ◌∙◌}
 use Rattle.aio_base.specs.Whole.{Told}
 use Rattle.ir_forms.specs.declared.ops.Func.{Func}
 use Rattle.ir_forms.specs.declared.ops.Module.{Module}
@@ -14,10 +14,11 @@ use Rattle.async_cli.specs.declared.stops.Stop.TheVariants.{Words, OutOfMemory}
 use Rattle.async_cli.specs.declared.tool_stops.ToolStop.{ToolStop}
 use Rattle.async_cli.specs.declared.tool_stops.ToolStop.TheVariants.{Shared}
 use Rattle.async_cli.specs.declared.words.Flags.{Flags}
+use Rattle.async_cli.specs.declared.words.Command.{Command}
 use Rattle.async_cli.specs.declared.words.Command.TheVariants.{Run}
 use Rattle.async_cli.specs.declared.answering.Written.{Written}
 use Rattle.async_cli.specs.declared.tool.End.{End}
-use Rattle.async_cli.specs.Words.{Asked, AsksFor, AsksNot, asked_of, entry_named, entry_asked, or_else}
+use Rattle.async_cli.specs.Words.{Asked, AsksFor, AsksNot, asked_of, command_of, with_options, are_allowed, entry_in, args_text, args_said, fuel_in, flags_in, entry_asked, or_else}
 use Rattle.async_cli.specs.Stops.{stop_text, tool_status, tool_text}
 use Rattle.async_cli.specs.Texts.{run_text}
 use Rattle.async_cli.specs.Answers.{Given, Gave, text_limit, IsInput, IsAccepted, IsEntry, EntryStops, HasEntry, TextStops, IsWritten}
@@ -42,14 +43,14 @@ finishes entry flags journal text s law leads finished told = record {
 }
 
 enters : (given : Given) (asked : Asked) (text : List ℕ) (entry : Func) → AsksFor Run given.words asked → IsInput text_limit given.source text →
-    (shown : List ℕ) → shown ≡ text → HasEntry shown asked.entry entry → Enters given asked entry
+    (shown : List ℕ) → shown ≡ text → HasEntry shown asked entry → Enters given asked entry
 enters given asked text entry asks input shown same found =
-    record { asks = asks; text = text; input = input; found = subst (λ t. HasEntry t asked.entry entry) same found }
+    record { asks = asks; text = text; input = input; found = subst (λ t. HasEntry t asked entry) same found }
 
 -- what the run of a code makes of the whole call
 pub ran : (given : Given) (asked : Asked) (text : List ℕ) (code : Straight) (journal : List Entry) (result : Result (Vec ℕ Global) Stop) →
     AsksFor Run given.words asked → IsInput text_limit given.source text → (shown : List ℕ) → shown ≡ text →
-    (entry : Func) × (HasEntry shown asked.entry entry × (code ≡ straight_of entry)) →
+    (entry : Func) × (HasEntry shown asked entry × (code ≡ straight_of entry)) →
     ((entry : Func) → code ≡ straight_of entry →
     MatchResult result (λ text. Finishes entry asked.flags journal text.items) (λ stop. RunStops entry journal stop)) →
     MatchResult result (λ text. Ends given journal text.items) (λ stop. Causes given journal stop)
@@ -100,7 +101,7 @@ is_given source bytes shown text journal input same parts =
 -- what the replay of the entries makes of the whole call
 pub replayed : (source : Told) (asked : Asked) (text : List ℕ) (journal : Option (List ℕ)) (code : Straight) (entries shown : List Entry)
     (result : Result (Vec ℕ Global) ToolStop) → IsGiven source text journal → length text ≤ text_limit →
-    (entry : Func) × (HasEntry text asked.entry entry × (code ≡ straight_of entry)) → AreLines journal entries → shown ≡ entries →
+    (entry : Func) × (HasEntry text asked entry × (code ≡ straight_of entry)) → AreLines journal entries → shown ≡ entries →
     ((entry : Func) → code ≡ straight_of entry →
     MatchResult result (λ t. Finishes entry asked.flags shown t.items) (λ stop. EntryListStops entry shown stop)) →
     MatchResult result (λ t. ReplayEnds source asked t.items) (λ stop. ReplayCauses source asked stop)
@@ -149,6 +150,19 @@ done_ends P Q (Ok text) (Err stop) is holds = absurd (cc is)
 done_ends P Q (Err cause) (Ok end) is holds = absurd (cc is.1)
 done_ends P Q (Err cause) (Err stop) is holds = let same : cause ≡ stop = cc is in subst Q same holds
 
+-- the entry that is asked for is that in the words
+allowed : (b : Bool) (made asked : Asked) → (if b then Some made else None) ≡ Some asked → made ≡ asked
+allowed true made asked is = cc is
+allowed false made asked is = absurd (cc is)
+
+commanded : (c : Option Command) (words : List (List ℕ)) (asked : Asked) → option_and_then (with_options words) c ≡ Some asked → entry_in words ≡ asked.entry
+commanded None words asked is = absurd (cc is)
+commanded (Some c) words asked is = ap (λ (a : Asked). a.entry) (allowed (are_allowed words) (record { command = c; entry = entry_in words; args = args_said (args_text words); fuel = fuel_in words; flags = flags_in words }) asked is)
+
+entry_is : (words : List (List ℕ)) (asked : Asked) → asked_of words ≡ Some asked → entry_asked words ≡ asked.entry
+entry_is [] asked is = absurd (cc is)
+entry_is (word ∷ words) asked is = commanded (command_of word) words asked is
+
 -- what a command gives makes what is owed
 pub served : (given : Given) (asked : Asked) (result : Result End ToolStop) → Some asked ≡ asked_of given.words →
     MatchResult result (λ end. CommandEnds asked.command given.source asked end.status end.text.items)
@@ -157,7 +171,7 @@ pub served : (given : Given) (asked : Asked) (result : Result End ToolStop) → 
     (λ stop. ToolOwes given (tool_status stop) (tool_text (entry_asked given.words) stop))
 served given asked (Ok end) is ends = ToolOwes.ended asked end.status end.text.items (sym is) ends
 served given asked (Err stop) is causes =
-    subst (λ e. ToolOwes given (tool_status stop) (tool_text e stop)) (ap entry_named is) (ToolOwes.stopped asked stop (sym is) causes)
+    subst (λ e. ToolOwes given (tool_status stop) (tool_text e stop)) (sym (entry_is given.words asked (sym is))) (ToolOwes.stopped asked stop (sym is) causes)
 
 pub refused : (given : Given) → None ≡ asked_of given.words →
     ToolOwes given (tool_status (Shared Words)) (tool_text (entry_asked given.words) (Shared Words))
@@ -190,7 +204,7 @@ tool_answered given gave entry (Err stop) status written after named owed wrote 
 -- ---- the entry
 
 -- what an accepted module's entry makes of its text
-pub entered : (text name : List ℕ) (program : Module) (result : Result Straight Stop) → IsAccepted text program →
+pub entered : (text : List ℕ) (name : Asked) (program : Module) (result : Result Straight Stop) → IsAccepted text program →
     MatchResult result (λ code. (entry : Func) × (IsEntry program name entry × (code ≡ straight_of entry))) (λ stop. EntryStops program name stop) →
     MatchResult result (λ code. (entry : Func) × (HasEntry text name entry × (code ≡ straight_of entry))) (λ stop. TextStops text name stop)
 entered text name program (Ok code) accepted found = (found.0, ((program, (accepted, found.1.0)), found.1.1))

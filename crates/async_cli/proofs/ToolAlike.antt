@@ -17,13 +17,24 @@ use Rattle.async_cli.specs.declared.stops.Stop.TheVariants as stop
 use Rattle.async_cli.specs.declared.tool_stops.ToolStop.{ToolStop}
 use Rattle.async_cli.specs.declared.tool_stops.ToolStop.TheVariants.{Shared, BadLine, NotARun, Unfinished}
 use Rattle.async_cli.specs.declared.words.Command.{Command}
-use Rattle.async_cli.specs.declared.words.Command.TheVariants.{Check, Run, Replay}
+use Rattle.async_cli.specs.declared.words.Command.TheVariants.{Check, Run, Source, Replay}
 use Rattle.async_cli.specs.Words.{Asked, asked_of}
-use Rattle.async_cli.specs.Answers.{Given, text_limit, IsAccepted, ModuleStops}
+use Rattle.async_cli.specs.Answers.{Given, text_limit, IsAccepted, ModuleStops, entry_of}
 use Rattle.async_cli.specs.Checks.{CheckEnds, CheckCauses, accepted_line}
 use Rattle.async_cli.specs.Held.{IsUnfinished}
 use Rattle.async_cli.specs.Inputs.{input_limit, is_heading, IsSplit}
 use Rattle.async_cli.specs.Laws.{is_decided, IsDecided, ToolOwesOne}
+use Rattle.arguments.specs.Fits.{Fitted, Fits, Wrong, fitted_args}
+use Rattle.ir_forms.specs.declared.args.Arg.{Arg}
+use Rattle.ir_forms.specs.declared.runs.FuncNo.{FuncNo}
+use Rattle.ir_verify.specs.declared.entry.EntryFault.{EntryFault}
+use Rattle.ir_verify.specs.declared.entry.EntryFault.TheVariants as entry_fault
+use Rattle.race_order.specs.Race.{IsAnswer}
+use Rattle.run_report.specs.Source.{source_status, source_text}
+use Rattle.source_meaning.specs.Sequential.{Means}
+use Rattle.async_cli.specs.Sources.{types_at, RunFails, IsReported, SourceEnds, SourceCauses}
+use Rattle.async_cli.proofs.OneRace.{one_race}
+use Rattle.async_cli.proofs.OneRun.{one_run}
 use Rattle.async_cli.specs.Replays.{IsGiven, AreLines, LineStops, EntryListStops, ReplayCauses, ReplayEnds}
 use Rattle.async_cli.specs.Runs.{LeadsTo, Finishes}
 use Rattle.async_cli.specs.Stops.{tool_status, tool_text}
@@ -98,8 +109,8 @@ LinesGive journal f asked r =
 
 abbrev PartsGive : List ℕ → Option (List ℕ) → Asked → Result (List ℕ) ToolStop → Type 0
 PartsGive text journal asked r =
-    ((s : Stop) × (EntryGives text asked.entry (Err s) × (r ≡ Err (Shared s))))
-    ⊎ ((f : Func) × (EntryGives text asked.entry (Ok f) × LinesGive journal f asked r))
+    ((s : Stop) × (EntryGives text asked (Err s) × (r ≡ Err (Shared s))))
+    ⊎ ((f : Func) × (EntryGives text asked (Ok f) × LinesGive journal f asked r))
 
 abbrev SplitGives : List ℕ → Option (List ℕ) → Asked → Result (List ℕ) ToolStop → Type 0
 SplitGives text journal asked r =
@@ -143,6 +154,7 @@ entry_why f entries (Shared (stop.TooLong limit)) decided why = absurd why
 entry_why f entries (Shared (stop.Module fault)) decided why = absurd why
 entry_why f entries (Shared stop.NoEntry) decided why = absurd why
 entry_why f entries (Shared (stop.EntryType op)) decided why = absurd why
+entry_why f entries (Shared (stop.Args at)) decided why = absurd why
 entry_why f entries (Shared (stop.NotYet op)) decided why = absurd why
 entry_why f entries (Shared (stop.Short parked)) decided why = absurd why
 entry_why f entries (Shared (stop.Spent count)) decided why = absurd why
@@ -201,6 +213,7 @@ line_why None (Shared (stop.TooLong limit)) decided why = absurd why
 line_why None (Shared (stop.Module fault)) decided why = absurd why
 line_why None (Shared stop.NoEntry) decided why = absurd why
 line_why None (Shared (stop.EntryType op)) decided why = absurd why
+line_why None (Shared (stop.Args at)) decided why = absurd why
 line_why None (Shared (stop.NotYet op)) decided why = absurd why
 line_why None (Shared (stop.Short parked)) decided why = absurd why
 line_why None (Shared (stop.Spent entries)) decided why = absurd why
@@ -215,6 +228,7 @@ line_why (Some lines) (Shared (stop.TooLong limit)) decided why = absurd why
 line_why (Some lines) (Shared (stop.Module fault)) decided why = absurd why
 line_why (Some lines) (Shared stop.NoEntry) decided why = absurd why
 line_why (Some lines) (Shared (stop.EntryType op)) decided why = absurd why
+line_why (Some lines) (Shared (stop.Args at)) decided why = absurd why
 line_why (Some lines) (Shared (stop.NotYet op)) decided why = absurd why
 line_why (Some lines) (Shared (stop.Short parked)) decided why = absurd why
 line_why (Some lines) (Shared (stop.Spent entries)) decided why = absurd why
@@ -263,15 +277,15 @@ parts_alike laws law text journal asked r q a b =
     elim a [
       | inl x ↦ elim b [
         | inl y ↦
-            let both : Err x.0 ≡ Err y.0 = entries_alike law text asked.entry (Err x.0) (Err y.0) x.1.0 y.1.0 in
+            let both : Err x.0 ≡ Err y.0 = entries_alike law text asked (Err x.0) (Err y.0) x.1.0 y.1.0 in
             let stops : x.0 ≡ y.0 = cc both in
             x.1.1 ∙ ap (λ s. Err (Shared s)) stops ∙ sym y.1.1
-        | inr y ↦ absurd (cc (entries_alike law text asked.entry (Err x.0) (Ok y.0) x.1.0 y.1.0))
+        | inr y ↦ absurd (cc (entries_alike law text asked (Err x.0) (Ok y.0) x.1.0 y.1.0))
       ]
       | inr x ↦ elim b [
-        | inl y ↦ absurd (cc (entries_alike law text asked.entry (Ok x.0) (Err y.0) x.1.0 y.1.0))
+        | inl y ↦ absurd (cc (entries_alike law text asked (Ok x.0) (Err y.0) x.1.0 y.1.0))
         | inr y ↦
-            let both : Ok x.0 ≡ Ok y.0 = entries_alike law text asked.entry (Ok x.0) (Ok y.0) x.1.0 y.1.0 in
+            let both : Ok x.0 ≡ Ok y.0 = entries_alike law text asked (Ok x.0) (Ok y.0) x.1.0 y.1.0 in
             let same : x.0 ≡ y.0 = cc both in
             lines_alike laws journal y.0 asked r q (subst (λ h. LinesGive journal h asked r) same x.1.1) y.1.1
       ]
@@ -368,29 +382,163 @@ replay_stops source bytes asked cause told decided (ReplayCauses.no_end c text j
     given_parts source bytes text journal asked _ told given
     (inr (within, inr (f, (found, inr (entries, (lines, (decided, why)))))))
 
+-- ---- `source`
+
+abbrev fit_stop : Fitted → Option Stop
+fit_stop (Wrong at) = Some (stop.Args at)
+fit_stop (Fits values) = None
+
+-- why there is no run
+abbrev run_stop : Module → List Arg → Result FuncNo EntryFault → Option Stop
+run_stop p args (Err entry_fault.NoEntry) = Some stop.NoEntry
+run_stop p args (Err (entry_fault.EntryType op)) = Some (stop.EntryType op)
+run_stop p args (Ok number) = fit_stop (fitted_args (types_at p number) args)
+
+run_fails : (p : Module) (asked : Asked) (s : Stop) → is_decided s ≡ true → RunFails p asked s →
+    run_stop p asked.args (entry_of p asked.entry) ≡ Some s
+run_fails p asked stop.NoEntry decided why = ap (run_stop p asked.args) why
+run_fails p asked (stop.EntryType op) decided why = ap (run_stop p asked.args) why
+run_fails p asked (stop.Args at) decided why = ap (run_stop p asked.args) why.1.0 ∙ ap fit_stop why.1.1
+run_fails p asked stop.OutOfMemory decided why = absurd (cc decided)
+run_fails p asked stop.Words decided why = absurd why
+run_fails p asked stop.Read decided why = absurd why
+run_fails p asked (stop.TooLong limit) decided why = absurd why
+run_fails p asked (stop.Module fault) decided why = absurd why
+run_fails p asked (stop.NotYet op) decided why = absurd why
+run_fails p asked (stop.Short parked) decided why = absurd why
+run_fails p asked (stop.Spent entries) decided why = absurd why
+run_fails p asked (stop.Write written) decided why = absurd why
+
+runs_on : (p : Module) (asked : Asked) (status : ℕ) (text : List ℕ) → IsReported p asked status text →
+    run_stop p asked.args (entry_of p asked.entry) ≡ None
+runs_on p asked status text is = ap (run_stop p asked.args) is.run.found ∙ ap fit_stop is.run.fits
+
+-- a module's run has one report
+one_report : (p : Module) (asked : Asked) (m n : ℕ) (t u : List ℕ) → IsReported p asked m t → IsReported p asked n u → (m ≡ n) × (t ≡ u)
+one_report p asked m n t u a b =
+    let founds : Ok a.run.number ≡ Ok b.run.number = sym a.run.found ∙ b.run.found in
+    let numbers : a.run.number ≡ b.run.number = cc founds in
+    let fits : fitted_args (types_at p a.run.number) asked.args ≡ Fits b.run.values =
+    subst (λ k. fitted_args (types_at p k) asked.args ≡ Fits b.run.values) (sym numbers) b.run.fits in
+    let both : Fits a.run.values ≡ Fits b.run.values = sym a.run.fits ∙ fits in
+    let values : a.run.values ≡ b.run.values = cc both in
+    let here : Means p a.run.number.0 b.run.values asked.fuel b.end b.trace =
+    subst (λ (k : FuncNo). Means p k.0 b.run.values asked.fuel b.end b.trace) (sym numbers) b.run.means in
+    let same : Means p a.run.number.0 a.run.values asked.fuel b.end b.trace =
+    subst (λ vs. Means p a.run.number.0 vs asked.fuel b.end b.trace) (sym values) here in
+    let one = one_run p a.run.number.0 a.run.values asked.fuel a.end b.end a.trace b.trace a.run.means same in
+    let races : a.race ≡ b.race = one_race a.trace a.race b.race a.first (subst (λ l. IsAnswer l b.race) (sym one.1) b.first) in (
+      a.status_is ∙ ap (λ e. source_status e a.race) one.0 ∙ ap (source_status b.end) races ∙ sym b.status_is,
+      a.told ∙ ap (λ e. source_text p e a.trace a.race) one.0 ∙ ap (λ l. source_text p b.end l a.race) one.1
+          ∙ ap (source_text p b.end b.trace) races ∙ sym b.told,
+    )
+
+abbrev Reported : Type 0
+Reported = Result (ℕ × List ℕ) ToolStop
+
+abbrev RunReports : Module → Asked → Reported → Type 0
+RunReports p asked r =
+    ((s : Stop) × ((is_decided s ≡ true) × (RunFails p asked s × (r ≡ Err (Shared s)))))
+    ⊎ ((status : ℕ) × ((text : List ℕ) × (IsReported p asked status text × (r ≡ Ok (status, text)))))
+
+reports_alike : (p : Module) (asked : Asked) (r q : Reported) → RunReports p asked r → RunReports p asked q → r ≡ q
+reports_alike p asked r q a b =
+    elim a [
+      | inl x ↦ elim b [
+        | inl y ↦
+            let both : Some x.0 ≡ Some y.0 = sym (run_fails p asked x.0 x.1.0 x.1.1.0) ∙ run_fails p asked y.0 y.1.0 y.1.1.0 in
+            let stops : x.0 ≡ y.0 = cc both in
+            x.1.1.1 ∙ ap (λ s. Err (Shared s)) stops ∙ sym y.1.1.1
+        | inr y ↦ absurd (cc (sym (runs_on p asked y.0 y.1.0 y.1.1.0) ∙ run_fails p asked x.0 x.1.0 x.1.1.0))
+      ]
+      | inr x ↦ elim b [
+        | inl y ↦ absurd (cc (sym (runs_on p asked x.0 x.1.0 x.1.1.0) ∙ run_fails p asked y.0 y.1.0 y.1.1.0))
+        | inr y ↦
+            let one = one_report p asked x.0 y.0 x.1.0 y.1.0 x.1.1.0 y.1.1.0 in
+            x.1.1.1 ∙ ap (λ k. Ok (k, x.1.0)) one.0 ∙ ap (λ l. Ok (y.0, l)) one.1 ∙ sym y.1.1.1
+      ]
+    ]
+
+abbrev ModuleRuns : List ℕ → Asked → Reported → Type 0
+ModuleRuns bytes asked r =
+    ((s : Stop) × ((is_decided s ≡ true) × (ModuleStops bytes s × (r ≡ Err (Shared s)))))
+    ⊎ ((p : Module) × (IsAccepted bytes p × RunReports p asked r))
+
+module_runs_alike : OneAnswer → (bytes : List ℕ) (asked : Asked) (r q : Reported) → ModuleRuns bytes asked r → ModuleRuns bytes asked q → r ≡ q
+module_runs_alike law bytes asked r q a b =
+    elim a [
+      | inl x ↦ elim b [
+        | inl y ↦ x.1.1.1 ∙ ap (λ s. Err (Shared s)) (stops_alike law bytes x.0 y.0 x.1.0 y.1.0 x.1.1.0 y.1.1.0) ∙ sym y.1.1.1
+        | inr y ↦ absurd (accepted_stays law bytes y.0 x.0 x.1.0 y.1.0 x.1.1.0)
+      ]
+      | inr x ↦ elim b [
+        | inl y ↦ absurd (accepted_stays law bytes x.0 y.0 y.1.0 x.1.0 y.1.1.0)
+        | inr y ↦
+            let same : y.0 ≡ x.0 = one_accepted law bytes y.0 x.0 y.1.0 x.1.0 in
+            reports_alike x.0 asked r q x.1.1 (subst (λ p. RunReports p asked q) same y.1.1)
+      ]
+    ]
+
+abbrev SourceGives : List ℕ → Asked → Reported → Type 0
+SourceGives bytes asked r =
+    ((text_limit < length bytes) × (r ≡ Err (Shared (stop.TooLong text_limit)))) ⊎ ((length bytes ≤ text_limit) × ModuleRuns bytes asked r)
+
+sources_alike : OneAnswer → (bytes : List ℕ) (asked : Asked) (r q : Reported) → SourceGives bytes asked r → SourceGives bytes asked q → r ≡ q
+sources_alike law bytes asked r q a b =
+    elim a [
+      | inl x ↦ elim b [ inl y ↦ x.1 ∙ sym y.1 | inr y ↦ absurd (omega (arith, x.0, y.0)) ]
+      | inr x ↦ elim b [ inl y ↦ absurd (omega (arith, y.0, x.0)) | inr y ↦ module_runs_alike law bytes asked r q x.1 y.1 ]
+    ]
+
+source_ends : (source : Told) (bytes : List ℕ) (asked : Asked) (status : ℕ) (text : List ℕ) → source.left ≡ Some bytes →
+    SourceEnds source asked status text → SourceGives bytes asked (Ok (status, text))
+source_ends source bytes asked status text told ends =
+    let read = input_gives text_limit source bytes ends.bytes told ends.input in
+    inr (read.1, inr (ends.program, (subst (λ b. IsAccepted b ends.program) read.0 ends.accepted, inr (status, (text, (ends.reported, refl))))))
+
+source_stops : (source : Told) (bytes : List ℕ) (asked : Asked) (cause : ToolStop) → source.left ≡ Some bytes → is_decided_cause cause ≡ true →
+    SourceCauses source asked cause → SourceGives bytes asked (Err cause)
+source_stops source bytes asked _ told decided (SourceCauses.input s why) =
+    let input = input_stops text_limit source bytes s told decided why in inl (input.1, ap (λ s. Err (Shared s)) input.0)
+source_stops source bytes asked _ told decided (SourceCauses.no_module s all input why) =
+    let read = input_gives text_limit source bytes all told input in
+    inr (read.1, inl (s, (decided, (subst (λ b. ModuleStops b s) read.0 why, refl))))
+source_stops source bytes asked _ told decided (SourceCauses.no_run s all p input accepted why) =
+    let read = input_gives text_limit source bytes all told input in
+    inr (read.1, inr (p, (subst (λ b. IsAccepted b p) read.0 accepted, inl (s, (decided, (why, refl))))))
+
 -- ---- each command
 
-abbrev CommandGives : Command → List ℕ → Asked → Result (List ℕ) ToolStop → Type 0
-CommandGives Check bytes asked r = CheckGives bytes r
-CommandGives Replay bytes asked r = ReplayGives bytes asked r
+-- an end with status 0
+abbrev with_zero : Result (List ℕ) ToolStop → Reported
+with_zero (Ok text) = Ok (0, text)
+with_zero (Err cause) = Err cause
+
+abbrev CommandGives : Command → List ℕ → Asked → Reported → Type 0
+CommandGives Check bytes asked r = (q : Result (List ℕ) ToolStop) × (CheckGives bytes q × (r ≡ with_zero q))
+CommandGives Replay bytes asked r = (q : Result (List ℕ) ToolStop) × (ReplayGives bytes asked q × (r ≡ with_zero q))
+CommandGives Source bytes asked r = SourceGives bytes asked r
 CommandGives Run bytes asked r = r ≡ Err (Shared stop.Words)
 
-commands_alike : Journals → OneAnswer → (command : Command) (bytes : List ℕ) (asked : Asked) (r q : Result (List ℕ) ToolStop) →
+commands_alike : Journals → OneAnswer → (command : Command) (bytes : List ℕ) (asked : Asked) (r q : Reported) →
     CommandGives command bytes asked r → CommandGives command bytes asked q → r ≡ q
-commands_alike laws law Check bytes asked r q a b = checks_alike law bytes r q a b
-commands_alike laws law Replay bytes asked r q a b = replays_alike laws law bytes asked r q a b
+commands_alike laws law Check bytes asked r q a b = a.1.1 ∙ ap with_zero (checks_alike law bytes a.0 b.0 a.1.0 b.1.0) ∙ sym b.1.1
+commands_alike laws law Replay bytes asked r q a b = a.1.1 ∙ ap with_zero (replays_alike laws law bytes asked a.0 b.0 a.1.0 b.1.0) ∙ sym b.1.1
+commands_alike laws law Source bytes asked r q a b = sources_alike law bytes asked r q a b
 commands_alike laws law Run bytes asked r q a b = a ∙ sym b
 
 command_ends : (command : Command) (source : Told) (bytes : List ℕ) (asked : Asked) (status : ℕ) (text : List ℕ) → source.left ≡ Some bytes →
-    CommandEnds command source asked status text → (status ≡ 0) × CommandGives command bytes asked (Ok text)
-command_ends Check source bytes asked status text told ends = (ends.0, check_ends source bytes text told ends.1)
-command_ends Replay source bytes asked status text told ends = (ends.0, replay_ends source bytes asked text told ends.1)
+    CommandEnds command source asked status text → CommandGives command bytes asked (Ok (status, text))
+command_ends Check source bytes asked status text told ends = (Ok text, (check_ends source bytes text told ends.1, ap (λ n. Ok (n, text)) ends.0))
+command_ends Replay source bytes asked status text told ends = (Ok text, (replay_ends source bytes asked text told ends.1, ap (λ n. Ok (n, text)) ends.0))
+command_ends Source source bytes asked status text told ends = source_ends source bytes asked status text told ends
 command_ends Run source bytes asked status text told ends = absurd ends
 
 command_stops : (command : Command) (source : Told) (bytes : List ℕ) (asked : Asked) (cause : ToolStop) → source.left ≡ Some bytes →
     is_decided_cause cause ≡ true → CommandCauses command source asked cause → CommandGives command bytes asked (Err cause)
-command_stops Check source bytes asked cause told decided why = check_stops source bytes cause told decided why
-command_stops Replay source bytes asked cause told decided why = replay_stops source bytes asked cause told decided why
+command_stops Check source bytes asked cause told decided why = (Err cause, (check_stops source bytes cause told decided why, refl))
+command_stops Replay source bytes asked cause told decided why = (Err cause, (replay_stops source bytes asked cause told decided why, refl))
+command_stops Source source bytes asked cause told decided why = source_stops source bytes asked cause told decided why
 command_stops Run source bytes asked cause told decided why = ap Err why
 
 -- a status that isn't 7, 8 or 9 is that of a decided cause
@@ -406,22 +554,23 @@ cause_decided (Shared (stop.TooLong limit)) is = refl
 cause_decided (Shared (stop.Module fault)) is = refl
 cause_decided (Shared stop.NoEntry) is = refl
 cause_decided (Shared (stop.EntryType op)) is = refl
+cause_decided (Shared (stop.Args at)) is = refl
 cause_decided (Shared (stop.NotYet op)) is = refl
 cause_decided (Shared (stop.Short parked)) is = refl
 cause_decided (Shared (stop.Spent entries)) is = refl
 
 -- a status and its text, as what they stand for
-abbrev IsTold : List ℕ → ℕ → List ℕ → Result (List ℕ) ToolStop → Type 0
-IsTold entry status t (Ok text) = (status ≡ 0) × (t ≡ text)
+abbrev IsTold : List ℕ → ℕ → List ℕ → Reported → Type 0
+IsTold entry status t (Ok told) = (status ≡ told.0) × (t ≡ told.1)
 IsTold entry status t (Err cause) = (status ≡ tool_status cause) × (t ≡ tool_text entry cause)
 
-same_told : (entry : List ℕ) (a b : ℕ) (s t : List ℕ) (r : Result (List ℕ) ToolStop) → IsTold entry a s r → IsTold entry b t r → (a ≡ b) × (s ≡ t)
+same_told : (entry : List ℕ) (a b : ℕ) (s t : List ℕ) (r : Reported) → IsTold entry a s r → IsTold entry b t r → (a ≡ b) × (s ≡ t)
 same_told entry a b s t (Ok text) x y = (x.0 ∙ sym y.0, x.1 ∙ sym y.1)
 same_told entry a b s t (Err cause) x y = (x.0 ∙ sym y.0, x.1 ∙ sym y.1)
 
 abbrev AskedGives : Asked → List ℕ → ℕ → List ℕ → Type 0
 AskedGives asked bytes status t =
-    (r : Result (List ℕ) ToolStop) × (CommandGives asked.command bytes asked r × IsTold asked.entry status t r)
+    (r : Reported) × (CommandGives asked.command bytes asked r × IsTold asked.entry status t r)
 
 -- the words ask for nothing, or a command gives this
 abbrev ToolGives : List (List ℕ) → List ℕ → ℕ → List ℕ → Type 0
@@ -432,9 +581,10 @@ ToolGives words bytes status t =
 tool_owed : (given : Given) (bytes : List ℕ) (status : ℕ) (t : List ℕ) → given.source.left ≡ Some bytes → IsDecided status →
     ToolOwes given status t → ToolGives given.words bytes status t
 tool_owed given bytes _ _ told decided (ToolOwes.words none) = inl (none, (refl, refl))
+tool_owed given bytes _ _ told decided ToolOwes.no_memory = absurd (decided.1.1 refl)
 tool_owed given bytes status t told decided (ToolOwes.ended asked code text asks ends) =
     let gives = command_ends asked.command given.source bytes asked status t told ends in
-    inr (asked, (asks, (Ok t, (gives.1, (gives.0, refl)))))
+    inr (asked, (asks, (Ok (status, t), (gives, (refl, refl)))))
 tool_owed given bytes _ _ told decided (ToolOwes.stopped asked cause asks why) =
     inr (
       asked,

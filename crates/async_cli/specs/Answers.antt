@@ -1,8 +1,12 @@
 -- What the commands have in common: what a call reads and writes, and in which order it refuses.
-use Rattle.std.specs.Prelude.{ℕ, ◌≡◌, ◌≤◌, ◌⊎◌, List, [], length, slice_get, Option, Some, None, Result, Ok, Err, ⊤}
+use Rattle.std.specs.Prelude.{ℕ, ◌≡◌, ◌≤◌, ◌⊎◌, List, [], length, map, slice_get, Option, Some, None, Result, Ok, Err, ⊤}
 use Rattle.std.specs.Io.KnownBytes.{Appends}
 use Rattle.aio_base.specs.Faults.{Rose}
 use Rattle.aio_base.specs.Whole.{Told, ReadsWhole, ReadsPast, WritesFront}
+use Rattle.arguments.specs.Fits.{Fitted, Fits, Wrong, fitted_args}
+use Rattle.ir_forms.specs.declared.args.Arg.{Arg}
+use Rattle.ir_forms.specs.declared.args.ArgValue.{ArgValue}
+use Rattle.ir_forms.specs.declared.types.Ty.{Ty}
 use Rattle.ir_forms.specs.declared.ops.Func.{Func}
 use Rattle.ir_forms.specs.declared.ops.Module.{Module}
 use Rattle.ir_forms.specs.declared.runs.FuncNo.{FuncNo}
@@ -16,12 +20,13 @@ use Rattle.ir_verify.specs.declared.entry.EntryFault.TheVariants as entry_fault
 use Rattle.ir_verify.specs.Entry.{entry_from}
 use Rattle.ir_verify.specs.Verdict.{IsSound, IsFirst}
 use Rattle.async_cli.specs.declared.stops.Stop.{Stop}
-use Rattle.async_cli.specs.declared.stops.Stop.TheVariants.{Read, TooLong, NoEntry, EntryType, NotYet, OutOfMemory}
+use Rattle.async_cli.specs.declared.stops.Stop.TheVariants.{Read, TooLong, NoEntry, EntryType, Args, NotYet, OutOfMemory}
 use Rattle.async_cli.specs.declared.stops.Stop.TheVariants as stop
 use Rattle.async_cli.specs.declared.stops.ModuleFault.TheVariants.{Text, Verify}
 use Rattle.async_cli.specs.declared.answering.Written.{Written}
 use Rattle.async_cli.specs.declared.answering.Written.TheVariants.{Whole, Broken, NoMemory}
 use Rattle.async_cli.specs.NotYet.{first_not_yet}
+use Rattle.async_cli.specs.Words.{Asked}
 
 -- what a call is given: its words, and what its source tells before it and after it
 pub record Given : Type 0 where
@@ -72,29 +77,52 @@ ModuleStops text _ = ⊥
 abbrev pub entry_of : Module → List ℕ → Result FuncNo EntryFault
 entry_of program name = entry_from 0 program.funcs name
 
--- this function is the module's entry of this name, and a run can take all of the module's operations
-pub record IsEntry (program : Module) (name : List ℕ) (entry : Func) : Type 0 where
+-- which parameters' types a function has
+abbrev pub types_of : Func → List Ty
+types_of f = map (λ p. p.1) f.params
+
+-- the function that is asked for, of this number, and whether the arguments fit it
+pub record Names (program : Module) (asked : Asked) (entry : Func) (fitted : Fitted) : Type 0 where
   pub number : FuncNo
-  pub found : entry_of program name ≡ Ok number
+  pub found : entry_of program asked.entry ≡ Ok number
   pub is : slice_get program.funcs number.0 ≡ Some entry
+  pub fits : fitted_args (types_of entry) asked.args ≡ fitted
+
+-- this function is the module's entry that is asked for, the arguments fit it, and a run can take all of the module's operations
+pub record IsEntry (program : Module) (asked : Asked) (entry : Func) : Type 0 where
+  pub values : List ArgValue
+  pub names : Names program asked entry (Fits values)
   pub runs : first_not_yet program ≡ None
 
--- the text is that of a module with this entry of this name, which breaks no rule
-abbrev pub HasEntry : List ℕ → List ℕ → Func → Type 0
-HasEntry text name entry = (program : Module) × (IsAccepted text program × IsEntry program name entry)
+-- the text is that of a module with this entry, which breaks no rule
+abbrev pub HasEntry : List ℕ → Asked → Func → Type 0
+HasEntry text asked entry = (program : Module) × (IsAccepted text program × IsEntry program asked entry)
 
--- why a module has no entry of this name that can be run
-abbrev pub EntryStops : Module → List ℕ → Stop → Type 0
-EntryStops program name NoEntry = entry_of program name ≡ Err entry_fault.NoEntry
-EntryStops program name (EntryType op) = entry_of program name ≡ Err (entry_fault.EntryType op)
-EntryStops program name (NotYet op) = ((number : FuncNo) × (entry_of program name ≡ Ok number)) × (first_not_yet program ≡ Some op)
-EntryStops program name OutOfMemory = ⊤
-EntryStops program name _ = ⊥
+-- why the entry isn't found
+abbrev pub FindStops : Module → List ℕ → Stop → Type 0
+FindStops program name NoEntry = entry_of program name ≡ Err entry_fault.NoEntry
+FindStops program name (EntryType op) = entry_of program name ≡ Err (entry_fault.EntryType op)
+FindStops program name OutOfMemory = ⊤
+FindStops program name _ = ⊥
 
--- why a text gives no function of this name to run: it gives no module that breaks no rule, or that module has no such entry
--- that can be run
-abbrev pub TextStops : List ℕ → List ℕ → Stop → Type 0
-TextStops text name stop = ModuleStops text stop ⊎ ((program : Module) × (IsAccepted text program × EntryStops program name stop))
+-- why arguments don't fit it
+abbrev pub FitStops : Func → List Arg → Stop → Type 0
+FitStops entry args (Args at) = fitted_args (types_of entry) args ≡ Wrong at
+FitStops entry args OutOfMemory = ⊤
+FitStops entry args _ = ⊥
+
+-- why a module has no entry that can be run as it is asked for
+abbrev pub EntryStops : Module → Asked → Stop → Type 0
+EntryStops program asked NoEntry = entry_of program asked.entry ≡ Err entry_fault.NoEntry
+EntryStops program asked (EntryType op) = entry_of program asked.entry ≡ Err (entry_fault.EntryType op)
+EntryStops program asked (Args at) = (entry : Func) × Names program asked entry (Wrong at)
+EntryStops program asked (NotYet op) = ((entry : Func) × ((values : List ArgValue) × Names program asked entry (Fits values))) × (first_not_yet program ≡ Some op)
+EntryStops program asked OutOfMemory = ⊤
+EntryStops program asked _ = ⊥
+
+-- why a text gives no function to run: it gives no module that breaks no rule, or that module has no such entry that can be run
+abbrev pub TextStops : List ℕ → Asked → Stop → Type 0
+TextStops text asked stop = ModuleStops text stop ⊎ ((program : Module) × (IsAccepted text program × EntryStops program asked stop))
 
 -- ---- what is written
 

@@ -9,5 +9,6 @@ pub mod Replays
 pub mod Runs
 pub mod Stops
 pub mod Texts
+pub mod Sources
 pub mod Tools
 pub mod Words

@@ -61,11 +61,11 @@ pub data ReplayCauses (source : Told) (asked : Asked) : ToolStop → Type 0 wher
   long_text : (text : List ℕ) (journal : Option (List ℕ)) → IsGiven source text journal → text_limit < length text
       → ReplayCauses source asked (Shared (stop.TooLong text_limit))
   no_entry : (cause : Stop) (text : List ℕ) (journal : Option (List ℕ)) → IsGiven source text journal → length text ≤ text_limit
-      → TextStops text asked.entry cause → ReplayCauses source asked (Shared cause)
+      → TextStops text asked cause → ReplayCauses source asked (Shared cause)
   no_journal : (cause : ToolStop) (text : List ℕ) (journal : Option (List ℕ)) (entry : Func) → IsGiven source text journal
-      → length text ≤ text_limit → HasEntry text asked.entry entry → LineStops journal cause → ReplayCauses source asked cause
+      → length text ≤ text_limit → HasEntry text asked entry → LineStops journal cause → ReplayCauses source asked cause
   no_end : (cause : ToolStop) (text : List ℕ) (journal : Option (List ℕ)) (entry : Func) (entries : List Entry) → IsGiven source text journal
-      → length text ≤ text_limit → HasEntry text asked.entry entry → AreLines journal entries → EntryListStops entry entries cause → ReplayCauses source asked cause
+      → length text ≤ text_limit → HasEntry text asked entry → AreLines journal entries → EntryListStops entry entries cause → ReplayCauses source asked cause
 
 -- What was read is the text of a module with the entry that is asked for, and the journal of a finished run of it.
 pub record ReplayEnds (source : Told) (asked : Asked) (text : List ℕ) : Type 0 where
@@ -75,6 +75,6 @@ pub record ReplayEnds (source : Told) (asked : Asked) (text : List ℕ) : Type 0
   pub entries : List Entry
   pub was_given : IsGiven source program journal
   pub within : length program ≤ text_limit
-  pub found : HasEntry program asked.entry entry
+  pub found : HasEntry program asked entry
   pub lines : AreLines journal entries
   pub finishes : Finishes entry asked.flags entries text

@@ -24,7 +24,7 @@ pub record Enters (given : Given) (asked : Asked) (entry : Func) : Type 0 where
   pub asks : AsksFor Run given.words asked
   pub text : List ℕ
   pub input : IsInput text_limit given.source text
-  pub found : HasEntry text asked.entry entry
+  pub found : HasEntry text asked entry
 
 -- over the code of this function the journal is possible, and leads to this state
 abbrev pub LeadsTo : Func → List Entry → State → Type 0
@@ -54,7 +54,7 @@ pub data Causes (given : Given) (journal : List Entry) : Stop → Type 0 where
   input : (stop : Stop) (asked : Asked) → journal ≡ [] → AsksFor Run given.words asked → InputStops text_limit given.source stop
       → Causes given journal stop
   entry : (stop : Stop) (asked : Asked) (text : List ℕ) → journal ≡ [] → AsksFor Run given.words asked
-      → IsInput text_limit given.source text → TextStops text asked.entry stop → Causes given journal stop
+      → IsInput text_limit given.source text → TextStops text asked stop → Causes given journal stop
   no_memory : journal ≡ [] → Causes given journal OutOfMemory
   run : (stop : Stop) (asked : Asked) (f : Func) → Enters given asked f → RunStops f journal stop → Causes given journal stop
 

@@ -1,7 +1,7 @@
 -- The status and the text of each answer.
-use Rattle.std.specs.Prelude.{ℕ, if◌then◌else◌, ◌==◌, ◌++◌, List, [], Option, Some, None, codes}
+use Rattle.std.specs.Prelude.{ℕ, if◌then◌else◌, ◌==◌, ◌++◌, List, [], Option, Some, None, codes, ◌≡◌, ⊤}
 use Rattle.async_cli.specs.declared.stops.Stop.{Stop}
-use Rattle.async_cli.specs.declared.stops.Stop.TheVariants.{Words, Read, TooLong, Module, NoEntry, EntryType, NotYet, Short, Spent, Write, OutOfMemory}
+use Rattle.async_cli.specs.declared.stops.Stop.TheVariants.{Words, Read, TooLong, Module, NoEntry, EntryType, Args, NotYet, Short, Spent, Write, OutOfMemory}
 use Rattle.async_cli.specs.declared.stops.ModuleFault.{ModuleFault}
 use Rattle.async_cli.specs.declared.stops.ModuleFault.TheVariants.{Text, Verify}
 use Rattle.mlir_lex.specs.declared.kinds.LexFault.{LexFault}
@@ -24,12 +24,19 @@ status_of (Some (TooLong limit)) = 3
 status_of (Some (Module fault)) = 3
 status_of (Some NoEntry) = 3
 status_of (Some (EntryType op)) = 3
+status_of (Some (Args at)) = 3
 status_of (Some (NotYet op)) = 3
 status_of (Some (Short parked)) = 4
 status_of (Some (Spent entries)) = 6
 status_of (Some Read) = 7
 status_of (Some (Write written)) = 8
 status_of (Some OutOfMemory) = 9
+
+-- the argument of this index doesn't fit; or its index has no room
+abbrev pub IsUnfit : ℕ → Stop → Type 0
+IsUnfit at (Args n) = n ≡ at
+IsUnfit at OutOfMemory = ⊤
+IsUnfit at _ = ⊥
 
 -- ---- the lines of faults
 
@@ -79,6 +86,7 @@ stop_text entry (TooLong limit) = numbered (codes "refused: longer than ") limit
 stop_text entry (Module fault) = module_line fault
 stop_text entry NoEntry = between (codes "refused: no entry ") entry (codes "\n")
 stop_text entry (EntryType op) = numbered (codes "refused: entry type at operation ") op (codes "\n")
+stop_text entry (Args at) = numbered (codes "refused: argument ") at (codes "\n")
 stop_text entry (NotYet op) = numbered (codes "refused: NotYet at operation ") op (codes "\n")
 stop_text entry (Short parked) = numbered (codes "stopped: parked tasks ") parked (codes "\n")
 stop_text entry (Spent entries) = numbered (codes "stopped: entries ") entries (codes "\n")

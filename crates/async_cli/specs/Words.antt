@@ -1,8 +1,10 @@
 -- What the words of a call ask for. A word is its bytes.
 use Rattle.std.specs.Prelude.{ℕ, ◌≡◌, ◌+◌, ◌*◌, ◌-◌, ◌==◌, ◌&&◌, ◌||◌, Bool, true, is_some, nat_le, nat_lt, if◌then◌else◌, List, [], ◌∷◌, take, drop, length, Option, Some, None, option_and_then, codes}
 use Rattle.std.specs.Str.{bytes_eq}
+use Rattle.arguments.specs.Grammar.{Verdict, Whole, Bad, verdict}
+use Rattle.ir_forms.specs.declared.args.Arg.{Arg}
 use Rattle.async_cli.specs.declared.words.Command.{Command}
-use Rattle.async_cli.specs.declared.words.Command.TheVariants.{Check, Run, Replay}
+use Rattle.async_cli.specs.declared.words.Command.TheVariants.{Check, Run, Source, Replay}
 use Rattle.async_cli.specs.declared.words.Flags.{Flags}
 use Rattle.async_cli.specs.declared.words.Asked as code
 
@@ -12,8 +14,9 @@ abbrev pub command_of : List ℕ → Option Command
 command_of word =
     if bytes_eq word (codes "check") then Some Check
     else (if bytes_eq word (codes "run") then Some Run
+    else (if bytes_eq word (codes "source") then Some Source
     else (if bytes_eq word (codes "replay") then Some Replay
-    else None))
+    else None)))
 
 -- the word begins like this
 abbrev pub has_front : List ℕ → List ℕ → Bool
@@ -40,13 +43,23 @@ abbrev pub fuel_of : List ℕ → Option ℕ
 fuel_of [] = None
 fuel_of (byte ∷ bytes) = option_and_then (λ n. if n == 0 then None else Some n) (number_behind 0 (byte ∷ bytes))
 
+-- the arguments that were read
+abbrev pub args_read : Verdict → Option (List Arg)
+args_read (Whole args) = Some args
+args_read (Bad at) = None
+
+-- the arguments that a text says
+abbrev pub args_of : List ℕ → Option (List Arg)
+args_of text = args_read (verdict text)
+
 -- a flag, or an option with a value that it can have
 abbrev pub is_option : List ℕ → Bool
 is_option word =
     bytes_eq word (codes "--steps")
     || (bytes_eq word (codes "--journal")
     || (has_front (codes "--entry=") word
-    || is_some (option_and_then fuel_of (behind (codes "--fuel=") word))))
+    || (is_some (option_and_then fuel_of (behind (codes "--fuel=") word))
+    || is_some (option_and_then args_of (behind (codes "--args=") word)))))
 
 -- ---- the words after the command
 
@@ -64,14 +77,18 @@ abbrev pub value_of : List ℕ → List (List ℕ) → Option (List ℕ)
 value_of front [] = None
 value_of front (word ∷ words) = if has_front front word then Some (drop (length front) word) else value_of front words
 
--- each is an option, and none stands twice
-abbrev pub are_allowed : List (List ℕ) → Bool
-are_allowed words =
-    are_options words
-    && (nat_lt (count_of (codes "--steps") words) 2
+-- none stands twice
+abbrev pub stand_once : List (List ℕ) → Bool
+stand_once words =
+    nat_lt (count_of (codes "--steps") words) 2
     && (nat_lt (count_of (codes "--journal") words) 2
     && (nat_lt (count_of (codes "--entry=") words) 2
-    && nat_lt (count_of (codes "--fuel=") words) 2)))
+    && (nat_lt (count_of (codes "--fuel=") words) 2
+    && nat_lt (count_of (codes "--args=") words) 2)))
+
+-- each is an option, and none stands twice
+abbrev pub are_allowed : List (List ℕ) → Bool
+are_allowed words = are_options words && stand_once words
 
 abbrev pub or_else : {A : Type 0} → A → Option A → A
 or_else otherwise None = otherwise
@@ -89,21 +106,30 @@ entry_in words = or_else (codes "main") (value_of (codes "--entry=") words)
 abbrev pub fuel_in : List (List ℕ) → ℕ
 fuel_in words = or_else 1000000 (option_and_then fuel_of (value_of (codes "--fuel=") words))
 
+-- the text of the arguments
+abbrev pub args_text : List (List ℕ) → List ℕ
+args_text words = or_else [] (value_of (codes "--args=") words)
+
+-- the arguments; a text that says none stands for none
+abbrev pub args_said : List ℕ → List Arg
+args_said text = or_else [] (args_of text)
+
 -- ---- a call
 
 -- what a call is asked: a command and its options
 pub record Asked : Type 0 where
   pub command : Command
   pub entry : List ℕ
+  pub args : List Arg
   pub fuel : ℕ
   pub flags : Flags
 
 abbrev pub seen : code.Asked → Asked
-seen a = record { command = a.command; entry = a.entry.now; fuel = a.fuel; flags = a.flags }
+seen a = record { command = a.command; entry = a.entry.now; args = args_said a.args.now; fuel = a.fuel; flags = a.flags }
 
 abbrev pub with_options : List (List ℕ) → Command → Option Asked
 with_options words command =
-    if are_allowed words then Some (record { command = command; entry = entry_in words; fuel = fuel_in words; flags = flags_in words })
+    if are_allowed words then Some (record { command = command; entry = entry_in words; args = args_said (args_text words); fuel = fuel_in words; flags = flags_in words })
     else None
 
 -- the first word is a command, and the others are its options in any order, each at most once
@@ -119,10 +145,7 @@ AsksFor command words asked = (asked_of words ≡ Some asked) × (asked.command 
 abbrev pub AsksNot : Command → List (List ℕ) → Type 0
 AsksNot command words = (asked : Asked) → AsksFor command words asked → ⊥
 
--- the name of the entry that is asked for, where a command is
-abbrev pub entry_named : Option Asked → List ℕ
-entry_named None = []
-entry_named (Some asked) = asked.entry
-
+-- the name of the entry in the words behind the first
 abbrev pub entry_asked : List (List ℕ) → List ℕ
-entry_asked words = entry_named (asked_of words)
+entry_asked [] = codes "main"
+entry_asked (word ∷ words) = entry_in words

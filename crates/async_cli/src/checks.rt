@@ -8,10 +8,10 @@ ghost use Rattle.async_cli.specs.Checks.{CheckCauses, CheckEnds, accepted_line, 
 
 use crate::input::{TEXT_LIMIT, read_input, read_module};
 use crate::stops::Stop;
-use crate::texts::push_two_numbered;
 use crate::tool_stops::ToolStop;
 use aio_base::Source;
 use ir_forms::{Module, operation_count};
+use run_report::push_two_numbered;
 use std::alloc::{AllocError, Global};
 
 /// Reads a module, and makes the line that tells how large it is.

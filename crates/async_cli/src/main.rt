@@ -11,6 +11,7 @@ mod not_yet;
 mod outcome;
 mod replays;
 mod run;
+mod sources;
 mod stops;
 #[cfg(test)]
 mod tests;

@@ -42,7 +42,7 @@ pub fn tell_replay<S: Source>(
     if text.len() > TEXT_LIMIT as usize {
         return Err(ToolStop::Shared(Stop::TooLong { limit: TEXT_LIMIT }));
     }
-    let code = match read_code(alloc, text, asked.entry) {
+    let code = match read_code(alloc, text, asked) {
         Ok(code) => code,
         Err(stop) => return Err(ToolStop::Shared(stop)),
     };

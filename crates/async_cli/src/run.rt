@@ -1,6 +1,6 @@
 //! `run`: one module, from bytes to the text of its run's end.
 
-ghost use Rattle.std.specs.Prelude.{◌≡◌, ℕ, List, [], map, option_map, MatchResult, None, Some};
+ghost use Rattle.std.specs.Prelude.{◌≡◌, ℕ, List, [], map, option_map, IfOk, MatchResult, None, Some};
 ghost use Rattle.std.specs.String.{string_bytes};
 ghost use Rattle.aio_base.specs.Whole.{Told};
 ghost use Rattle.ir_forms.specs.declared.ops.Func.{Func as TheFunc};
@@ -18,9 +18,9 @@ use crate::outcome::Outcome;
 use crate::stops::Stop;
 use crate::texts::run_text;
 use crate::tool_stops::ToolStop;
-use crate::words::{Asked, Command, Flags, entry_named, read_words};
+use crate::words::{Asked, Command, Flags, entry_asked, read_words};
 use aio_base::{Gate, Sink, Source};
-use std::alloc::Global;
+use std::alloc::{AllocError, Global};
 use std::sync::Wait;
 use std::thread::Threads;
 use step_core::{Core, Entry, Straight, straight_replays_mean};
@@ -64,10 +64,10 @@ pub fn run<R: Threads + Wait + Sync, S: Source, K: Sink, G: Gate + Sync>(
         } in
         Answers given gave result.journal.items result.stop }
 {
-    let asked = read_words(words);
+    let read = read_words(alloc, words);
     let mut journal = Vec::new(alloc);
-    let told = tell(alloc, asked, source, &mut journal);
-    let written = write(alloc, sink, entry_named(asked), &told);
+    let told = tell(alloc, read, source, &mut journal);
+    let written = write(alloc, sink, entry_asked(words), &told);
     let stop = stop_after(stop_in(&told), written);
     RunEnd {
         status: Stop::status(stop),
@@ -119,12 +119,12 @@ fn stop_after(answer: Option<Stop>, written: Written) -> Option<Stop>
 /// What these words are told: the text of the run's end, or why there is none.
 fn tell<S: Source>(
     alloc: Global,
-    asked: Option<Asked>,
+    read: Result<Option<Asked>, AllocError>,
     source: &mut S,
     journal: &mut Vec<Entry>,
 ) -> Result<Vec<u8>, Stop>
     requires { journal.old.items ≡ [] }
-    ensures { (words : List (List ℕ)) → option_map seen asked.entry ≡ asked_of words →
+    ensures { (words : List (List ℕ)) → IfOk read.entry (λ asked. option_map seen asked ≡ asked_of words) →
         let given : Given = record {
           words = words;
           source = record {
@@ -136,13 +136,15 @@ fn tell<S: Source>(
         } in
         MatchResult result (λ text. Ends given journal.new.items text.items) (λ stop. Causes given journal.new.items stop) }
 {
-    match asked {
-        Some(asked) => match asked.command {
+    match read {
+        Ok(Some(asked)) => match asked.command {
             Command::Run => tell_run(alloc, asked, source, journal),
             Command::Check => Err(Stop::Words),
+            Command::Source => Err(Stop::Words),
             Command::Replay => Err(Stop::Words),
         },
-        None => Err(Stop::Words),
+        Ok(None) => Err(Stop::Words),
+        Err(_) => Err(Stop::OutOfMemory),
     }
 }
 
@@ -170,7 +172,7 @@ fn tell_run<S: Source>(
         Ok(text) => text,
         Err(stop) => return Err(stop),
     };
-    match read_code(alloc, &text, asked.entry) {
+    match read_code(alloc, &text, asked) {
         Ok(code) => run_code(alloc, &code, asked.flags, journal),
         Err(stop) => Err(stop),
     }

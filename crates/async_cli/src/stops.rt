@@ -1,13 +1,13 @@
 //! Why a run ended without an end, with the status and the text of each answer.
 
 ghost use Rattle.std.specs.Prelude.{◌≡◌, ◌++◌, OnOk, codes, decimal};
-ghost use Rattle.async_cli.specs.Stops.{status_of, stop_text, refusal, at_byte, memory_line, lex_line, limit_name, fault_line, module_line};
+ghost use Rattle.async_cli.specs.Stops.{status_of, stop_text, refusal, at_byte, memory_line, lex_line, limit_name, fault_line, module_line, IsUnfit};
 ghost use Rattle.async_cli.specs.Texts.{numbered};
 
-use crate::texts::{push_between, push_numbered};
 use ir_verify::VerifyKind;
 use mlir_lex::LexFault;
 use mlir_text::{Limited, TextFault};
+use run_report::{push_between, push_numbered};
 use std::alloc::AllocError;
 
 /// Why a text gives no module to run.
@@ -109,6 +109,8 @@ pub enum Stop {
     NoEntry,
     /// The entry, which has this number, has an async parameter, an async result or a memref result.
     EntryType { op: u32 },
+    /// The argument of this index, from 0, is missing, superfluous or doesn't fit its parameter.
+    Args { at: u32 },
     /// The first operation that a run can't take yet.
     NotYet { op: u32 },
     /// No task is ready, and so many are left.
@@ -122,6 +124,16 @@ pub enum Stop {
 }
 
 impl Stop {
+    /// That the argument of this index doesn't fit. A text that was read has fewer arguments than 2^32.
+    pub fn unfit(at: usize) -> Stop
+        ensures { IsUnfit at result }
+    {
+        match u32::try_from(at) {
+            Ok(at) => Stop::Args { at },
+            Err(_) => Stop::OutOfMemory,
+        }
+    }
+
     /// The exit status of an answer: 0 where the run is done, else by its cause.
     pub fn status(stop: Option<Stop>) -> u8
         ensures { result ≡ status_of stop }
@@ -134,6 +146,7 @@ impl Stop {
                 | Stop::Module(_)
                 | Stop::NoEntry
                 | Stop::EntryType { .. }
+                | Stop::Args { .. }
                 | Stop::NotYet { .. },
             ) => 3,
             Some(Stop::Short { .. }) => 4,
@@ -162,6 +175,7 @@ impl Stop {
                 u64::from(op),
                 "\n",
             ),
+            Stop::Args { at } => { push_numbered(text, "refused: argument ", u64::from(at), "\n") }
             Stop::NotYet { op } => push_numbered(
                 text,
                 "refused: NotYet at operation ",

@@ -1,6 +1,7 @@
 ghost use Rattle.std.specs.Prelude.{Some};
 
 mod checks;
+mod sources;
 
 use crate::run::run;
 use crate::stops::Stop;
@@ -98,7 +99,7 @@ fn answers<R: Threads + Wait + Sync>(
 
 #[test]
 fn tells_each_answer(rt: HostRuntime) -> Result<(), Fail> {
-    let rows: [(&[&str], &[u8], u8, &[u8]); 22] = [
+    let rows: [(&[&str], &[u8], u8, &[u8]); 26] = [
         (&["run"], ANSWER, 0, b"result 0: 42\ntasks 0, objects 0\n"),
         (&["run"], DOUBLED, 0, b"result 0: 84\ntasks 0, objects 0\n"),
         (
@@ -155,7 +156,7 @@ fn tells_each_answer(rt: HostRuntime) -> Result<(), Fail> {
             &["run"],
             b"func.func @main(%a: i64) { return }",
             3,
-            b"refused: NotYet at operation 1\n",
+            b"refused: argument 0\n",
         ),
         (
             &["run"],
@@ -196,6 +197,20 @@ fn tells_each_answer(rt: HostRuntime) -> Result<(), Fail> {
         ),
         (&["run", "--fuel=16777217"], ANSWER, 2, b"refused: words\n"),
         (&["run", "--fuel=0"], ANSWER, 2, b"refused: words\n"),
+        (&["check", "--args=[2:1"], ANSWER, 2, b"refused: words\n"),
+        (&["run", "--args=1"], ANSWER, 3, b"refused: argument 0\n"),
+        (
+            &["run", "--args=7,2", "--entry=q"],
+            b"func.func @q(%a: i64, %b: i1) { return }",
+            3,
+            b"refused: argument 1\n",
+        ),
+        (
+            &["run", "--args=7,true", "--entry=q"],
+            b"func.func @q(%a: i64, %b: i1) { return }",
+            3,
+            b"refused: NotYet at operation 1\n",
+        ),
     ];
     for (words, text, status, told) in rows {
         assert!(rt; answers(&rt, rt.alloc(), words, text, status, told)?);

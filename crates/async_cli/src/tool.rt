@@ -1,9 +1,9 @@
 //! The commands that wait for nothing.
 
-ghost use Rattle.std.specs.Prelude.{◌≡◌, ℕ, List, [], Ok, Err, MatchResult, map, option_map};
+ghost use Rattle.std.specs.Prelude.{◌≡◌, ℕ, List, [], Ok, Err, IfOk, MatchResult, map, option_map};
 ghost use Rattle.std.specs.String.{string_bytes};
 ghost use Rattle.aio_base.specs.Whole.{Told};
-ghost use Rattle.async_cli.specs.Words.{seen, asked_of, entry_asked};
+ghost use Rattle.async_cli.specs.Words.{seen, asked_of, entry_asked as name_asked};
 ghost use Rattle.async_cli.specs.Answers.{Given, Gave, IsWritten};
 ghost use Rattle.async_cli.specs.Stops.{tool_status, tool_text};
 ghost use Rattle.async_cli.specs.Tools.{ToolAnswers, ToolOwes, CommandEnds, CommandCauses, status_after};
@@ -11,17 +11,18 @@ ghost use Rattle.async_cli.specs.Tools.{ToolAnswers, ToolOwes, CommandEnds, Comm
 use crate::answering::{Written, write_cause, write_text};
 use crate::checks::tell_check;
 use crate::replays::tell_replay;
+use crate::sources::tell_source;
 use crate::stops::Stop;
 use crate::tool_stops::ToolStop;
-use crate::words::{Asked, Command, entry_named, read_words};
+use crate::words::{Asked, Command, entry_asked, read_words};
 use aio_base::{Sink, Source};
-use std::alloc::Global;
+use std::alloc::{AllocError, Global};
 
 /// The end of a command: the exit status, and the text.
 #[derive(Drop)]
-struct End {
-    status: u8,
-    text: Vec<u8>,
+pub(crate) struct End {
+    pub(crate) status: u8,
+    pub(crate) text: Vec<u8>,
 }
 
 /// Serves the commands other than `run`, and answers the exit status.
@@ -43,15 +44,19 @@ pub fn tool<S: Source, K: Sink>(alloc: Global, words: &[String], source: &mut S,
         } in
         ToolAnswers given gave result }
 {
-    let asked = read_words(words);
-    let told = tell(alloc, asked, source);
-    let written = write(alloc, sink, entry_named(asked), &told);
+    let read = read_words(alloc, words);
+    let told = tell(alloc, read, source);
+    let written = write(alloc, sink, entry_asked(words), &told);
     status_after(status_of(&told), written)
 }
 
 /// What these words are told.
-fn tell<S: Source>(alloc: Global, asked: Option<Asked>, source: &mut S) -> Result<End, ToolStop>
-    ensures { (words : List (List ℕ)) → option_map seen asked.entry ≡ asked_of words →
+fn tell<S: Source>(
+    alloc: Global,
+    read: Result<Option<Asked>, AllocError>,
+    source: &mut S,
+) -> Result<End, ToolStop>
+    ensures { (words : List (List ℕ)) → IfOk read.entry (λ asked. option_map seen asked ≡ asked_of words) →
         let given : Given = record {
           words = words;
           source = record {
@@ -61,11 +66,12 @@ fn tell<S: Source>(alloc: Global, asked: Option<Asked>, source: &mut S) -> Resul
             faults_after = S.faults source.new;
           };
         } in
-        MatchResult result (λ end. ToolOwes given end.status end.text.items) (λ stop. ToolOwes given (tool_status stop) (tool_text (entry_asked words) stop)) }
+        MatchResult result (λ end. ToolOwes given end.status end.text.items) (λ stop. ToolOwes given (tool_status stop) (tool_text (name_asked words) stop)) }
 {
-    match asked {
-        Some(asked) => serve(alloc, asked, source),
-        None => Err(ToolStop::Shared(Stop::Words)),
+    match read {
+        Ok(Some(asked)) => serve(alloc, asked, source),
+        Ok(None) => Err(ToolStop::Shared(Stop::Words)),
+        Err(_) => Err(ToolStop::Shared(Stop::OutOfMemory)),
     }
 }
 
@@ -81,6 +87,7 @@ fn serve<S: Source>(alloc: Global, asked: Asked, source: &mut S) -> Result<End, 
 {
     match asked.command {
         Command::Check => done(tell_check(alloc, source)),
+        Command::Source => tell_source(alloc, asked, source),
         Command::Replay => done(tell_replay(alloc, asked, source)),
         Command::Run => Err(ToolStop::Shared(Stop::Words)),
     }

@@ -5,8 +5,8 @@ ghost use Rattle.async_cli.specs.Stops.{tool_status, tool_text, why_not};
 ghost use Rattle.async_cli.specs.Texts.{numbered};
 
 use crate::stops::Stop;
-use crate::texts::push_numbered;
 use run_journal::TaskLook;
+use run_report::push_numbered;
 use std::alloc::AllocError;
 use step_core::Entry;
 

@@ -1,17 +1,22 @@
 //! The words of a call: a command, and options in any order, each at most once.
 
-ghost use Rattle.std.specs.Prelude.{◌≡◌, is_some, option_and_then, map, option_map, codes};
+ghost use Rattle.std.specs.Prelude.{◌≡◌, is_some, option_and_then, map, option_map, codes, IfOk};
 ghost use Rattle.std.specs.Option.{option_copied};
 ghost use Rattle.std.specs.String.{string_bytes};
-ghost use Rattle.async_cli.specs.Words.{command_of, has_front, behind, is_digit, number_behind, fuel_of, is_option, are_options, count_of, value_of, are_allowed, flags_in, entry_in, fuel_in, seen, asked_of, entry_named};
+ghost use Rattle.async_cli.specs.Words.{command_of, has_front, behind, is_digit, number_behind, fuel_of, is_option, args_of, are_options, count_of, value_of, stand_once, are_allowed, flags_in, entry_in, args_text, fuel_in, seen, asked_of, entry_asked};
+
+use arguments::{ArgsBad, read_bytes};
+use std::alloc::{AllocError, Global};
 
 /// What a call is to do.
 #[derive(Clone, Copy, Debug, PartialEq, Eq)]
 pub enum Command {
     /// To tell whether a module is accepted, and how large it is.
     Check,
-    /// To run a module.
+    /// To run a module on tasks.
     Run,
+    /// To run a module in the order of its text.
+    Source,
     /// To run a module as a journal tells.
     Replay,
 }
@@ -31,6 +36,8 @@ pub struct Asked<'a> {
     pub command: Command,
     /// The name of the function in which a run begins.
     pub entry: &'a [u8],
+    /// The text of its arguments.
+    pub args: &'a [u8],
     /// How many operations may begin where a module is run in the order of its text.
     pub fuel: u32,
     pub flags: Flags,
@@ -40,29 +47,34 @@ pub struct Asked<'a> {
 const MOST_FUEL: u32 = 16_777_216;
 
 /// What the words of a call ask for.
-pub fn read_words<'a>(words: &'a [String]) -> Option<Asked<'a>>
-    ensures { option_map seen result ≡ asked_of (map string_bytes words.now) }
+pub fn read_words<'a>(alloc: Global, words: &'a [String]) -> Result<Option<Asked<'a>>, AllocError>
+    ensures { IfOk result (λ asked. option_map seen asked ≡ asked_of (map string_bytes words.entry.now)) }
 {
-    let (first, others) = words.split_first()?;
-    let command = read_command(first.as_str())?;
-    if !are_allowed(others) {
-        return None;
+    let Some((first, others)) = words.split_first() else {
+        return Ok(None);
+    };
+    let Some(command) = read_command(first.as_str()) else {
+        return Ok(None);
+    };
+    if !are_allowed(alloc, others)? {
+        return Ok(None);
     }
-    Some(Asked {
+    Ok(Some(Asked {
         command,
         entry: entry_in(others),
+        args: args_in(others),
         fuel: fuel_in(others),
         flags: flags_in(others),
-    })
+    }))
 }
 
-/// The name of the entry that is asked for; empty where nothing is.
-pub fn entry_named<'a>(asked: Option<Asked<'a>>) -> &'a [u8]
-    ensures { result.now ≡ entry_named (option_map seen asked.entry) }
+/// The name of the entry in the words behind the first.
+pub fn entry_asked<'a>(words: &'a [String]) -> &'a [u8]
+    ensures { result.now ≡ entry_asked (map string_bytes words.entry.now) }
 {
-    match asked {
-        Some(asked) => asked.entry,
-        None => b"",
+    match words.split_first() {
+        Some((_, others)) => entry_in(others),
+        None => b"main",
     }
 }
 
@@ -72,6 +84,7 @@ fn read_command(word: &str) -> Option<Command>
     match word {
         "check" => Some(Command::Check),
         "run" => Some(Command::Run),
+        "source" => Some(Command::Source),
         "replay" => Some(Command::Replay),
         _ => None,
     }
@@ -141,26 +154,50 @@ fn is_fuel(word: &[u8]) -> bool
     }
 }
 
-fn is_option(word: &[u8]) -> bool
-    ensures { result ≡ is_option word.now }
+fn are_args(alloc: Global, word: &[u8]) -> Result<bool, AllocError>
+    ensures { IfOk result (λ are. are ≡ is_some (option_and_then args_of (behind (codes "--args=") word.now))) }
 {
-    word == b"--steps".as_slice()
+    match behind(word, b"--args=") {
+        Some(value) => says_args(alloc, value),
+        None => Ok(false),
+    }
+}
+
+/// Whether a text says arguments.
+fn says_args(alloc: Global, text: &[u8]) -> Result<bool, AllocError>
+    ensures { IfOk result (λ says. says ≡ is_some (args_of text.now)) }
+{
+    match read_bytes(alloc, text) {
+        Ok(_) => Ok(true),
+        Err(ArgsBad::Byte { .. }) => Ok(false),
+        Err(ArgsBad::OutOfMemory) => Err(AllocError),
+    }
+}
+
+fn is_option(alloc: Global, word: &[u8]) -> Result<bool, AllocError>
+    ensures { IfOk result (λ is. is ≡ is_option word.now) }
+{
+    if word == b"--steps".as_slice()
         || word == b"--journal".as_slice()
         || has_front(word, b"--entry=")
         || is_fuel(word)
+    {
+        return Ok(true);
+    }
+    are_args(alloc, word)
 }
 
 // ---- the words after the command
 
-fn are_options(words: &[String]) -> bool
-    ensures { result ≡ are_options (map string_bytes words.now) }
+fn are_options(alloc: Global, words: &[String]) -> Result<bool, AllocError>
+    ensures { IfOk result (λ are. are ≡ are_options (map string_bytes words.now)) }
 {
     for word in words {
-        if !is_option(word.as_bytes()) {
-            return false;
+        if !is_option(alloc, word.as_bytes())? {
+            return Ok(false);
         }
     }
-    true
+    Ok(true)
 }
 
 /// How many words begin like this.
@@ -188,14 +225,23 @@ fn value_of<'a>(words: &'a [String], front: &[u8]) -> Option<&'a [u8]>
     None
 }
 
-fn are_allowed(words: &[String]) -> bool
-    ensures { result ≡ are_allowed (map string_bytes words.now) }
+/// Whether no option stands twice.
+fn stand_once(words: &[String]) -> bool
+    ensures { result ≡ stand_once (map string_bytes words.now) }
 {
-    are_options(words)
-        && count_of(words, b"--steps") < 2
+    count_of(words, b"--steps") < 2
         && count_of(words, b"--journal") < 2
         && count_of(words, b"--entry=") < 2
         && count_of(words, b"--fuel=") < 2
+        && count_of(words, b"--args=") < 2
+}
+
+fn are_allowed(alloc: Global, words: &[String]) -> Result<bool, AllocError>
+    ensures { IfOk result (λ are. are ≡ are_allowed (map string_bytes words.now)) }
+{
+    let once = stand_once(words);
+    let known = are_options(alloc, words)?;
+    Ok(known && once)
 }
 
 fn flags_in(words: &[String]) -> Flags
@@ -213,6 +259,15 @@ fn entry_in<'a>(words: &'a [String]) -> &'a [u8]
     match value_of(words, b"--entry=") {
         Some(name) => name,
         None => b"main",
+    }
+}
+
+fn args_in<'a>(words: &'a [String]) -> &'a [u8]
+    ensures { result.now ≡ args_text (map string_bytes words.entry.now) }
+{
+    match value_of(words, b"--args=") {
+        Some(text) => text,
+        None => b"",
     }
 }
 

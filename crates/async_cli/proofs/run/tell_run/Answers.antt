@@ -16,4 +16,4 @@ returns-in-Ok-read_code g c = λ words asks.
 pub returns : goal.returns
 returns g c = λ words asks.
     Causes.entry c.in-Err-read_code.stop (seen c.args.asked) c.in-Ok.text.items c.requires asks c.in-Ok.ensures
-    (subst (λ t. TextStops t c.args.asked.entry.now c.in-Err-read_code.stop) c.deref.ensures.value c.in-Err-read_code.ensures)
+    (subst (λ t. TextStops t (seen c.args.asked) c.in-Err-read_code.stop) c.deref.ensures.value c.in-Err-read_code.ensures)

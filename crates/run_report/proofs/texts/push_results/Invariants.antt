@@ -1,6 +1,6 @@
 use Rattle.std.proofs.Common.{◌≡◌, ◌++◌, drop}
-use Rattle.async_cli.specs.Texts.{result_lines}
-use Rattle.async_cli.proofs.texts.push_results.Given as goal
+use Rattle.run_report.specs.Texts.{result_lines}
+use Rattle.run_report.proofs.texts.push_results.Given as goal
 
 -- the lines so far, and those of the results left, are all
 abbrev pub invariant-loop-index : goal.invariant-loop-index
