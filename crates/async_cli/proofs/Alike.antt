@@ -3,8 +3,8 @@ use Rattle.std.proofs.Common.{◌≡◌, ◌≤◌, ◌<◌, ◌⊎◌, ℕ, Lis
 use Rattle.aio_base.specs.Whole.{Told, ReadsWhole, ReadsPast}
 use Rattle.ir_forms.specs.declared.ops.Func.{Func}
 use Rattle.mlir_text.specs.Texts.{OneAnswer}
-use Rattle.step_core.specs.declared.ends.Entry.{Entry}
-use Rattle.step_core.specs.State.{State, live, IsFinished}
+use Rattle.straight_core.specs.declared.ends.Entry.{Entry}
+use Rattle.straight_core.specs.State.{State, live, IsFinished}
 use Rattle.async_cli.specs.declared.stops.Stop.{Stop}
 use Rattle.async_cli.specs.declared.stops.Stop.TheVariants as stop
 use Rattle.async_cli.specs.declared.words.Command.TheVariants.{Run}

@@ -2,10 +2,10 @@
 use Rattle.std.proofs.Common.{◌≡◌, ℕ, ◌+◌, ◌<◌, ◌≤◌, List, [], ◌∷◌, ◌++◌, length, Option, Some, None, ap, ◌∙◌, arith, inl, inr, length-append}
 use Rattle.std.proofs.lemmas.Bool.{cases_lt}
 use Rattle.std.proofs.lemmas.Option.{slice_get_past}
-use Rattle.step_core.specs.declared.ends.Entry.{Entry}
-use Rattle.step_core.specs.State.{State}
-use Rattle.step_core.specs.Step.{and_then, core_step, task_step}
-use Rattle.step_core.specs.Journal.{replay, entry_after}
+use Rattle.straight_core.specs.declared.ends.Entry.{Entry}
+use Rattle.straight_core.specs.State.{State}
+use Rattle.straight_core.specs.Step.{and_then, core_step, task_step}
+use Rattle.straight_core.specs.Journal.{replay, entry_after}
 use Rattle.run_journal.specs.Growth.{IsWithin}
 use Rattle.async_cli.specs.Driven.{IsDriven, IsPossible}
 

@@ -2,12 +2,12 @@
 use Rattle.std.proofs.Common.{◌≡◌, ℕ, Bool, true, false, MatchBool, Option, Some, None, IsSome, slice_get, refl, sym, ap, subst, ◌∙◌, arith, inl, inr}
 use Rattle.std.proofs.lemmas.Bool.{cases_order}
 use Rattle.ir_forms.specs.declared.runs.ObjNo.{ObjNo}
-use Rattle.step_core.specs.declared.ends.Entry.{Entry}
-use Rattle.step_core.specs.declared.tasks.Task.{Task}
-use Rattle.step_core.specs.Held.{ready_task, unparked}
-use Rattle.step_core.specs.State.{State}
-use Rattle.step_core.specs.Step.{core_step, task_step, ready_step}
-use Rattle.step_core.specs.Journal.{burst, longest_burst, entry_after}
+use Rattle.straight_core.specs.declared.ends.Entry.{Entry}
+use Rattle.straight_core.specs.declared.tasks.Task.{Task}
+use Rattle.straight_core.specs.Held.{ready_task, unparked}
+use Rattle.straight_core.specs.State.{State}
+use Rattle.straight_core.specs.Step.{core_step, task_step, ready_step}
+use Rattle.straight_core.specs.Journal.{burst, longest_burst, entry_after}
 use Rattle.run_journal.specs.declared.faults.TaskLook.{TaskLook}
 use Rattle.run_journal.specs.Replay.{look}
 use Rattle.run_journal.proofs.Entries.{look_ready, look_parked, look_gone, entry_differs}

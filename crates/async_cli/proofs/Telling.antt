@@ -3,12 +3,12 @@ use Rattle.std.proofs.Common.{◌≡◌, ◌≤◌, ℕ, Bool, true, false, if�
 use Rattle.aio_base.specs.Whole.{Told}
 use Rattle.ir_forms.specs.declared.ops.Func.{Func}
 use Rattle.ir_forms.specs.declared.ops.Module.{Module}
-use Rattle.step_core.specs.declared.code.Straight.{Straight}
-use Rattle.step_core.specs.declared.ends.Entry.{Entry}
-use Rattle.step_core.specs.Code.{straight_of}
-use Rattle.step_core.specs.Journal.{replay}
-use Rattle.step_core.specs.State.{State, start_state, IsFinished}
-use Rattle.step_core.specs.Laws.{StraightReplaysMean}
+use Rattle.straight_core.specs.declared.code.Straight.{Straight}
+use Rattle.straight_core.specs.declared.ends.Entry.{Entry}
+use Rattle.straight_core.specs.Code.{straight_of}
+use Rattle.straight_core.specs.Journal.{replay}
+use Rattle.straight_core.specs.State.{State, start_state, IsFinished}
+use Rattle.straight_core.specs.Laws.{StraightReplaysMean}
 use Rattle.async_cli.specs.declared.stops.Stop.{Stop}
 use Rattle.async_cli.specs.declared.stops.Stop.TheVariants.{Words, OutOfMemory}
 use Rattle.async_cli.specs.declared.tool_stops.ToolStop.{ToolStop}
@@ -17,7 +17,7 @@ use Rattle.async_cli.specs.declared.words.Flags.{Flags}
 use Rattle.async_cli.specs.declared.words.Command.{Command}
 use Rattle.async_cli.specs.declared.words.Command.TheVariants.{Run}
 use Rattle.async_cli.specs.declared.answering.Written.{Written}
-use Rattle.async_cli.specs.declared.tool.End.{End}
+use Rattle.async_cli.specs.declared.serving.End.{End}
 use Rattle.async_cli.specs.Words.{Asked, AsksFor, AsksNot, asked_of, command_of, with_options, are_allowed, entry_in, args_text, args_said, fuel_in, flags_in, entry_asked, or_else}
 use Rattle.async_cli.specs.Stops.{stop_text, tool_status, tool_text}
 use Rattle.async_cli.specs.Texts.{run_text}

@@ -3,11 +3,12 @@ use Rattle.std.proofs.Common.{◌≡◌, ◌≤◌, ◌<◌, ◌⊎◌, ◌+◌,
 use Rattle.std.proofs.lemmas.Bool.{cases_order}
 use Rattle.aio_base.specs.Whole.{Told}
 use Rattle.ir_forms.specs.declared.ops.Func.{Func}
+use Rattle.ir_forms.specs.declared.names.TraceEntry.{TraceEntry}
 use Rattle.ir_forms.specs.declared.ops.Module.{Module}
 use Rattle.mlir_text.specs.Texts.{OneAnswer}
-use Rattle.step_core.specs.declared.ends.Entry.{Entry}
-use Rattle.step_core.specs.Code.{straight_of}
-use Rattle.step_core.specs.State.{State, start_state, IsFinished}
+use Rattle.straight_core.specs.declared.ends.Entry.{Entry}
+use Rattle.straight_core.specs.Code.{straight_of}
+use Rattle.straight_core.specs.State.{State, start_state, IsFinished}
 use Rattle.run_journal.specs.declared.faults.TaskLook.{TaskLook}
 use Rattle.run_journal.specs.Laws.{OneJournal, OneBadLine, NoJournalWithBadLine, ReplayedOrNamed}
 use Rattle.run_journal.specs.Lines.{journal_lines, IsFirstBadLine}
@@ -29,10 +30,9 @@ use Rattle.ir_forms.specs.declared.args.Arg.{Arg}
 use Rattle.ir_forms.specs.declared.runs.FuncNo.{FuncNo}
 use Rattle.ir_verify.specs.declared.entry.EntryFault.{EntryFault}
 use Rattle.ir_verify.specs.declared.entry.EntryFault.TheVariants as entry_fault
-use Rattle.race_order.specs.Race.{IsAnswer}
-use Rattle.run_report.specs.Source.{source_status, source_text}
+use Rattle.run_report.specs.Source.{has_ended, source_status, source_text}
 use Rattle.source_meaning.specs.Sequential.{Means}
-use Rattle.async_cli.specs.Sources.{types_at, RunFails, IsReported, SourceEnds, SourceCauses}
+use Rattle.async_cli.specs.Sources.{types_at, IsRace, RunFails, IsReported, SourceEnds, SourceCauses}
 use Rattle.async_cli.proofs.OneRace.{one_race}
 use Rattle.async_cli.proofs.OneRun.{one_run}
 use Rattle.async_cli.specs.Replays.{IsGiven, AreLines, LineStops, EntryListStops, ReplayCauses, ReplayEnds}
@@ -413,6 +413,10 @@ runs_on : (p : Module) (asked : Asked) (status : ℕ) (text : List ℕ) → IsRe
     run_stop p asked.args (entry_of p asked.entry) ≡ None
 runs_on p asked status text is = ap (run_stop p asked.args) is.run.found ∙ ap fit_stop is.run.fits
 
+same_race : (ended : Bool) (trace : List TraceEntry) (r q : Option (ℕ × ℕ)) → IsRace ended trace r → IsRace ended trace q → r ≡ q
+same_race true trace r q a b = one_race trace r q a b
+same_race false trace r q a b = a ∙ sym b
+
 -- a module's run has one report
 one_report : (p : Module) (asked : Asked) (m n : ℕ) (t u : List ℕ) → IsReported p asked m t → IsReported p asked n u → (m ≡ n) × (t ≡ u)
 one_report p asked m n t u a b =
@@ -427,7 +431,9 @@ one_report p asked m n t u a b =
     let same : Means p a.run.number.0 a.run.values asked.fuel b.end b.trace =
     subst (λ vs. Means p a.run.number.0 vs asked.fuel b.end b.trace) (sym values) here in
     let one = one_run p a.run.number.0 a.run.values asked.fuel a.end b.end a.trace b.trace a.run.means same in
-    let races : a.race ≡ b.race = one_race a.trace a.race b.race a.first (subst (λ l. IsAnswer l b.race) (sym one.1) b.first) in (
+    let there : IsRace (has_ended a.end) b.trace b.race = subst (λ e. IsRace (has_ended e) b.trace b.race) (sym one.0) b.first in
+    let races : a.race ≡ b.race =
+    same_race (has_ended a.end) a.trace a.race b.race a.first (subst (λ l. IsRace (has_ended a.end) l b.race) (sym one.1) there) in (
       a.status_is ∙ ap (λ e. source_status e a.race) one.0 ∙ ap (source_status b.end) races ∙ sym b.status_is,
       a.told ∙ ap (λ e. source_text p e a.trace a.race) one.0 ∙ ap (λ l. source_text p b.end l a.race) one.1
           ∙ ap (source_text p b.end b.trace) races ∙ sym b.told,

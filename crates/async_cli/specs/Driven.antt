@@ -1,8 +1,8 @@
 -- How a run ended that was taken entry by entry.
 use Rattle.std.specs.Prelude.{ℕ, ◌≡◌, ◌<◌, List, length, Some}
-use Rattle.step_core.specs.declared.ends.Entry.{Entry}
-use Rattle.step_core.specs.State.{State, live, IsFinished}
-use Rattle.step_core.specs.Journal.{replay}
+use Rattle.straight_core.specs.declared.ends.Entry.{Entry}
+use Rattle.straight_core.specs.State.{State, live, IsFinished}
+use Rattle.straight_core.specs.Journal.{replay}
 use Rattle.run_journal.specs.Growth.{IsWithin}
 use Rattle.async_cli.specs.declared.outcome.Outcome.{Outcome}
 use Rattle.async_cli.specs.declared.outcome.Outcome.TheVariants.{Finished, Spent, Short}

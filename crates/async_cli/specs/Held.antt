@@ -1,9 +1,9 @@
 -- What holds a run up.
 use Rattle.std.specs.Prelude.{ℕ, ◌≡◌, ◌⊎◌, None, IsSome, slice_get}
-use Rattle.step_core.specs.State.{State, IsFinished}
-use Rattle.step_core.specs.Step.{core_step}
-use Rattle.step_core.specs.Held.{ready_task}
-use Rattle.step_core.specs.Journal.{entry_after}
+use Rattle.straight_core.specs.State.{State, IsFinished}
+use Rattle.straight_core.specs.Step.{core_step}
+use Rattle.straight_core.specs.Held.{ready_task}
+use Rattle.straight_core.specs.Journal.{entry_after}
 
 -- the run isn't finished
 abbrev pub IsUnfinished : State → Type 0

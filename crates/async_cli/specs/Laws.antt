@@ -1,7 +1,7 @@
 -- What is owed is a function of the words, the bytes and the journal, where each text has one answer of the reader, which is
 -- the law `one_answer` of `text_laws`.
 use Rattle.std.specs.Prelude.{ℕ, ◌≡◌, ◌≢◌, Bool, true, false, List, Option, Some, None}
-use Rattle.step_core.specs.declared.ends.Entry.{Entry}
+use Rattle.straight_core.specs.declared.ends.Entry.{Entry}
 use Rattle.mlir_text.specs.Texts.{OneAnswer}
 use Rattle.async_cli.specs.declared.stops.Stop.{Stop}
 use Rattle.async_cli.specs.declared.stops.Stop.TheVariants.{Read, Write, OutOfMemory}

@@ -2,9 +2,9 @@
 use Rattle.std.specs.Prelude.{ℕ, ◌≡◌, ◌≤◌, ◌<◌, List, length, Option, Some, None, ⊤}
 use Rattle.aio_base.specs.Whole.{Told}
 use Rattle.ir_forms.specs.declared.ops.Func.{Func}
-use Rattle.step_core.specs.declared.ends.Entry.{Entry}
-use Rattle.step_core.specs.Code.{straight_of}
-use Rattle.step_core.specs.State.{State, start_state}
+use Rattle.straight_core.specs.declared.ends.Entry.{Entry}
+use Rattle.straight_core.specs.Code.{straight_of}
+use Rattle.straight_core.specs.State.{State, start_state}
 use Rattle.run_journal.specs.declared.faults.TaskLook.{TaskLook}
 use Rattle.run_journal.specs.Lines.{journal_lines, AreEntries, IsFirstBadLine}
 use Rattle.run_journal.specs.Replay.{first_fault}

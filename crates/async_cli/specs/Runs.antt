@@ -1,11 +1,11 @@
 -- What `run` owes for each answer.
 use Rattle.std.specs.Prelude.{ℕ, ◌≡◌, ◌<◌, List, [], length, Option, Some, None}
 use Rattle.ir_forms.specs.declared.ops.Func.{Func}
-use Rattle.step_core.specs.declared.ends.Entry.{Entry}
-use Rattle.step_core.specs.Code.{straight_of}
-use Rattle.step_core.specs.State.{State, start_state, live, IsFinished}
-use Rattle.step_core.specs.Journal.{replay}
-use Rattle.step_core.specs.Laws.{Means}
+use Rattle.straight_core.specs.declared.ends.Entry.{Entry}
+use Rattle.straight_core.specs.Code.{straight_of}
+use Rattle.straight_core.specs.State.{State, start_state, live, IsFinished}
+use Rattle.straight_core.specs.Journal.{replay}
+use Rattle.straight_core.specs.Laws.{Means}
 use Rattle.async_cli.specs.declared.stops.Stop.{Stop}
 use Rattle.async_cli.specs.declared.stops.Stop.TheVariants.{Words, Short, Spent, Write, OutOfMemory}
 use Rattle.async_cli.specs.declared.words.Flags.{Flags}

@@ -1,5 +1,5 @@
 -- What `source` owes for each answer.
-use Rattle.std.specs.Prelude.{ℕ, ◌≡◌, List, map, slice_get, Option, Ok, Err, ⊤}
+use Rattle.std.specs.Prelude.{ℕ, ◌≡◌, Bool, true, false, List, map, slice_get, Option, None, Ok, Err, ⊤}
 use Rattle.aio_base.specs.Whole.{Told}
 use Rattle.arguments.specs.Fits.{Fits, Wrong, fitted_args}
 use Rattle.ir_forms.specs.declared.args.ArgValue.{ArgValue}
@@ -9,7 +9,7 @@ use Rattle.ir_forms.specs.declared.runs.FuncNo.{FuncNo}
 use Rattle.ir_forms.specs.declared.types.Ty.{Ty}
 use Rattle.ir_verify.specs.declared.entry.EntryFault.TheVariants as entry_fault
 use Rattle.race_order.specs.Race.{IsAnswer}
-use Rattle.run_report.specs.Source.{source_status, source_text}
+use Rattle.run_report.specs.Source.{has_ended, source_status, source_text}
 use Rattle.source_meaning.specs.declared.ends.SourceEnd.{SourceEnd}
 use Rattle.source_meaning.specs.Parts.{func_params}
 use Rattle.source_meaning.specs.Sequential.{Means}
@@ -41,13 +41,18 @@ RunFails program asked (Args at) =
 RunFails program asked OutOfMemory = ⊤
 RunFails program asked _ = ⊥
 
+-- where the run ended by its root, the first race of its trace; a run that was stopped is asked for none
+abbrev pub IsRace : Bool → List TraceEntry → Option (ℕ × ℕ) → Type 0
+IsRace true trace race = IsAnswer trace race
+IsRace false trace race = race ≡ None
+
 -- the status and the text are those of the run with the first race of its trace
 pub record IsReported (program : Module) (asked : Asked) (status : ℕ) (text : List ℕ) : Type 0 where
   pub end : SourceEnd
   pub trace : List TraceEntry
   pub race : Option (ℕ × ℕ)
   pub run : IsRun program asked end trace
-  pub first : IsAnswer trace race
+  pub first : IsRace (has_ended end) trace race
   pub status_is : status ≡ source_status end race
   pub told : text ≡ source_text program end trace race
 

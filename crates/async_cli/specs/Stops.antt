@@ -11,7 +11,7 @@ use Rattle.module_grammar.specs.declared.faults.Limited.TheVariants as limited
 use Rattle.mlir_text.specs.declared.fault.TextFault.{TextFault}
 use Rattle.mlir_text.specs.declared.fault.TextFault.TheVariants as text
 use Rattle.ir_verify.specs.Faults.{name_of_kind}
-use Rattle.step_core.specs.declared.ends.Entry.{Entry}
+use Rattle.straight_core.specs.declared.ends.Entry.{Entry}
 use Rattle.run_journal.specs.declared.faults.TaskLook.{TaskLook}
 use Rattle.async_cli.specs.declared.tool_stops.ToolStop.{ToolStop}
 use Rattle.async_cli.specs.declared.tool_stops.ToolStop.TheVariants.{Shared, BadLine, NotARun, Unfinished}

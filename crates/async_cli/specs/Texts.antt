@@ -1,10 +1,10 @@
 -- The texts of the answers. Each line ends with a newline.
 pub use Rattle.run_report.specs.Texts.{line, between, numbered, signed_text, number_text, result_line, result_lines}
 use Rattle.std.specs.Prelude.{ℕ, ◌-◌, if◌then◌else◌, List, [], ◌++◌, length, Option, Some, None, codes}
-use Rattle.step_core.specs.declared.ends.End.{End}
-use Rattle.step_core.specs.declared.ends.End.TheVariants.{Done, Failed}
-use Rattle.step_core.specs.declared.ends.Entry.{Entry}
-use Rattle.step_core.specs.State.{State}
+use Rattle.straight_core.specs.declared.ends.End.{End}
+use Rattle.straight_core.specs.declared.ends.End.TheVariants.{Done, Failed}
+use Rattle.straight_core.specs.declared.ends.Entry.{Entry}
+use Rattle.straight_core.specs.State.{State}
 use Rattle.run_journal.specs.Lines.{journal_lines}
 use Rattle.async_cli.specs.declared.words.Flags.{Flags}
 

@@ -1,9 +1,9 @@
 //! Takes the entries of a run itself, on one thread.
 
 ghost use Rattle.std.specs.Prelude.{◌≡◌, ℕ, ◌<◌, ◌≤◌, ◌++◌, ◌∷◌, [], None, Some, OnErr, IfOk, IfErr, MatchOption, MatchBool, IsSome};
-ghost use Rattle.step_core.specs.declared.ends.Entry.{Entry as TheEntry};
-ghost use Rattle.step_core.specs.Step.{core_step};
-ghost use Rattle.step_core.specs.Journal.{replay, entry_after};
+ghost use Rattle.straight_core.specs.declared.ends.Entry.{Entry as TheEntry};
+ghost use Rattle.straight_core.specs.Step.{core_step};
+ghost use Rattle.straight_core.specs.Journal.{replay, entry_after};
 ghost use Rattle.run_journal.specs.Growth.{HasRoom, IsWithin};
 ghost use Rattle.run_journal.specs.Replay.{look};
 ghost use Rattle.async_cli.specs.Driven.{HasOutcome, IsPossible};
@@ -14,7 +14,7 @@ use ir_forms::TaskNo;
 use run_journal::{TaskLook, entries_stay_within, take_entry, task_look};
 use std::alloc::{AllocError, Global};
 use std::collections::VecDeque;
-use step_core::{Core, Entry};
+use straight_core::{Core, Entry};
 
 /// The most entries of a run's journal.
 pub const ENTRY_LIMIT: u32 = 4_194_304;

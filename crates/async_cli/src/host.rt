@@ -33,6 +33,7 @@ pub struct HostInput<R> {
 }
 
 impl<R: Read> HostInput<R> {
+    /// A source over this reader, no call of which has failed yet.
     pub fn new(reader: R) -> Self {
         HostInput { reader, faults: 0 }
     }

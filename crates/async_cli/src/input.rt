@@ -4,7 +4,7 @@ ghost use Rattle.std.specs.Prelude.{◌≡◌, ℕ, ◌≤◌, ◌<◌, ◌+◌,
 ghost use Rattle.std.specs.Option.{option_copied};
 ghost use Rattle.aio_base.specs.Whole.{Told};
 ghost use Rattle.ir_forms.specs.declared.ops.Func.{Func as TheFunc};
-ghost use Rattle.step_core.specs.Code.{straight_of};
+ghost use Rattle.straight_core.specs.Code.{straight_of};
 ghost use Rattle.async_cli.specs.Answers.{IsInput, InputStops, IsAccepted, ModuleStops, IsEntry, EntryStops, HasEntry, TextStops};
 ghost use Rattle.arguments.specs.Fits.{Fits, fitted_args};
 ghost use Rattle.ir_forms.specs.declared.args.ArgValue.{ArgValue};
@@ -24,7 +24,7 @@ use ir_verify::{EntryFault, Verified, VerifyFault, entry_of, verify};
 use lists::Items;
 use mlir_text::{PROGRAM_LIMITS, TextFault, parse};
 use std::alloc::{AllocError, Global};
-use step_core::Straight;
+use straight_core::Straight;
 
 /// The most bytes of a module's text.
 pub const TEXT_LIMIT: u32 = 1_048_576;

@@ -4,7 +4,7 @@ ghost use Rattle.std.specs.Prelude.{◌≡◌, ◌≤◌, ◌^◌, length, Match
 ghost use Rattle.std.specs.Option.{option_copied};
 ghost use Rattle.aio_base.specs.Whole.{Told};
 ghost use Rattle.ir_forms.specs.declared.ops.Func.{Func as TheFunc};
-ghost use Rattle.step_core.specs.Code.{straight_of};
+ghost use Rattle.straight_core.specs.Code.{straight_of};
 ghost use Rattle.async_cli.specs.Runs.{Finishes};
 ghost use Rattle.async_cli.specs.Inputs.{input_limit};
 ghost use Rattle.async_cli.specs.Words.{seen};
@@ -18,7 +18,7 @@ use crate::words::{Asked, Flags};
 use aio_base::Source;
 use run_journal::{JournalFault, ReplayFault, read_journal, replay};
 use std::alloc::Global;
-use step_core::{Core, Entry, Straight, straight_replays_mean};
+use straight_core::{Core, Entry, Straight, straight_replays_mean};
 
 /// Reads a module and a journal, replays it, and makes the text of the end.
 pub fn tell_replay<S: Source>(

@@ -1,16 +1,15 @@
 //! `source`: one module, run in the order of its text, from bytes to what the run gives.
 
-ghost use Rattle.std.specs.Prelude.{◌≡◌, ℕ, Option, MatchResult};
-ghost use Rattle.race_order.specs.Race.{IsAnswer};
+ghost use Rattle.std.specs.Prelude.{◌≡◌, ℕ, Option, MatchResult, IfOk};
 ghost use Rattle.run_report.specs.Source as spec;
 ghost use Rattle.async_cli.specs.declared.stops.Stop.TheVariants.{OutOfMemory};
 ghost use Rattle.aio_base.specs.Whole.{Told};
 ghost use Rattle.async_cli.specs.Words.{seen};
-ghost use Rattle.async_cli.specs.Sources.{IsRun, RunFails, IsReported, SourceEnds, SourceCauses};
+ghost use Rattle.async_cli.specs.Sources.{IsRace, IsRun, RunFails, IsReported, SourceEnds, SourceCauses};
 
 use crate::input::{TEXT_LIMIT, args_said, entry_number, read_input, read_module};
+use crate::serving::End;
 use crate::stops::Stop;
-use crate::tool::End;
 use crate::tool_stops::ToolStop;
 use crate::words::Asked;
 use aio_base::Source;
@@ -20,8 +19,8 @@ use ir_verify::Verified;
 use race_order::first_race;
 use run_report::{source_status, source_text};
 use source_eval::evaluate;
-use source_meaning::SourceRun;
-use std::alloc::Global;
+use source_meaning::{SourceEnd, SourceRun};
+use std::alloc::{AllocError, Global};
 
 /// Reads a module, runs the entry that is asked for, and makes the text of what the run gives.
 pub fn tell_source<S: Source>(alloc: Global, asked: Asked, source: &mut S) -> Result<End, ToolStop>
@@ -75,11 +74,22 @@ fn evaluate_asked(alloc: Global, verified: &Verified, asked: Asked) -> Result<So
     }
 }
 
-/// The status and the text of a run, with the first race of its trace.
-fn report(alloc: Global, program: &Module, run: &SourceRun) -> Result<End, Stop>
-    ensures { MatchResult result (λ end. (race : Option (ℕ × ℕ)) × (IsAnswer run.now.trace.entries race × ((end.status ≡ spec.source_status run.now.end race) × (end.text.items ≡ spec.source_text program.now run.now.end run.now.trace.entries race)))) (λ stop. stop ≡ OutOfMemory) }
+/// The first race of a run that ended by its root. One that was stopped is asked for none: a loop of too many iterations may have
+/// been entered.
+fn race_of(alloc: Global, run: &SourceRun) -> Result<Option<(usize, usize)>, AllocError>
+    ensures { IfOk result (λ race. IsRace (spec.has_ended run.now.end) run.now.trace.entries race) }
 {
-    let Ok(race) = first_race(alloc, &run.trace) else {
+    match &run.end {
+        SourceEnd::Done { .. } | SourceEnd::Failed { .. } => first_race(alloc, &run.trace),
+        _ => Ok(None),
+    }
+}
+
+/// The status and the text of a run, with its first race.
+fn report(alloc: Global, program: &Module, run: &SourceRun) -> Result<End, Stop>
+    ensures { MatchResult result (λ end. (race : Option (ℕ × ℕ)) × (IsRace (spec.has_ended run.now.end) run.now.trace.entries race × ((end.status ≡ spec.source_status run.now.end race) × (end.text.items ≡ spec.source_text program.now run.now.end run.now.trace.entries race)))) (λ stop. stop ≡ OutOfMemory) }
+{
+    let Ok(race) = race_of(alloc, run) else {
         return Err(Stop::OutOfMemory);
     };
     match source_text(alloc, program, run, race) {

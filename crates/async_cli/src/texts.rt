@@ -9,7 +9,7 @@ use crate::words::Flags;
 use run_journal::push_journal;
 use run_report::{push_numbered, push_results};
 use std::alloc::{AllocError, Global};
-use step_core::{Core, End, Entry};
+use straight_core::{Core, End, Entry};
 
 /// Adds the line of what a run made.
 pub fn push_made(text: &mut Vec<u8>, tasks: u32, objects: u32) -> Result<(), AllocError>

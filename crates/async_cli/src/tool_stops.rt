@@ -8,7 +8,7 @@ use crate::stops::Stop;
 use run_journal::TaskLook;
 use run_report::push_numbered;
 use std::alloc::AllocError;
-use step_core::Entry;
+use straight_core::Entry;
 
 /// Why a command that waits for nothing gave no other answer.
 #[derive(Clone, Copy, Debug, PartialEq, Eq)]

@@ -1,8 +1,8 @@
 -- The loop that takes a burst.
 use Rattle.std.proofs.Common.{◌≡◌, ℕ, ◌+◌, ◌-◌, ◌<◌, Some, None, refl, sym, ◌∙◌, arith}
-use Rattle.step_core.specs.State.{State}
-use Rattle.step_core.specs.Step.{core_step}
-use Rattle.step_core.specs.Journal.{burst, longest_burst}
+use Rattle.straight_core.specs.State.{State}
+use Rattle.straight_core.specs.Step.{core_step}
+use Rattle.straight_core.specs.Journal.{burst, longest_burst}
 use Rattle.run_journal.proofs.Bursts.{OnlySteps, burst_goes, burst_none, local_keeps}
 
 -- so many steps of a burst from `start` were taken, and it has so many

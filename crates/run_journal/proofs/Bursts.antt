@@ -1,18 +1,18 @@
 -- Bursts of local steps: how they go on, what they make, and how many rows they take.
 use Rattle.std.proofs.Common.{◌≡◌, ℕ, zero, suc, ◌+◌, ◌<◌, ◌≤◌, Bool, true, false, cond, List, [], ◌∷◌, length, Option, Some, None, is_some, slice_get, slice_set, refl, sym, ap, ◌∙◌, arith, length-set}
 use Rattle.ir_forms.specs.declared.runs.ObjNo.{ObjNo}
-use Rattle.step_core.specs.declared.code.LocalRow.{LocalRow}
-use Rattle.step_core.specs.declared.code.LocalRow.TheVariants.{Constant, Add}
-use Rattle.step_core.specs.declared.code.RootRow.{RootRow}
-use Rattle.step_core.specs.declared.code.RootRow.TheVariants.{Local, Launch, Await, Return}
-use Rattle.step_core.specs.declared.tasks.Body.{Body}
-use Rattle.step_core.specs.declared.tasks.Body.TheVariants.{Root, Launched}
-use Rattle.step_core.specs.declared.tasks.Task.{Task}
-use Rattle.step_core.specs.State.{State}
-use Rattle.step_core.specs.Step.{core_step, task_step, ready_step, body_step, root_step, launched_step, region_rows, goes_on, after_local}
-use Rattle.step_core.specs.Journal.{burst, counted, option_then, local_step, next_is_local, task_is_local, body_is_local, is_local_row}
-use Rattle.step_core.specs.Ahead.{is_local_at, local_from, local_ahead}
-use Rattle.step_core.proofs.Kept.{local_body, local_place}
+use Rattle.straight_core.specs.declared.code.LocalRow.{LocalRow}
+use Rattle.straight_core.specs.declared.code.LocalRow.TheVariants.{Constant, Add}
+use Rattle.straight_core.specs.declared.code.RootRow.{RootRow}
+use Rattle.straight_core.specs.declared.code.RootRow.TheVariants.{Local, Launch, Await, Return}
+use Rattle.straight_core.specs.declared.tasks.Body.{Body}
+use Rattle.straight_core.specs.declared.tasks.Body.TheVariants.{Root, Launched}
+use Rattle.straight_core.specs.declared.tasks.Task.{Task}
+use Rattle.straight_core.specs.State.{State}
+use Rattle.straight_core.specs.Step.{core_step, task_step, ready_step, body_step, root_step, launched_step, region_rows, goes_on, after_local}
+use Rattle.straight_core.specs.Journal.{burst, counted, option_then, local_step, next_is_local, task_is_local, body_is_local, is_local_row}
+use Rattle.straight_core.specs.Ahead.{is_local_at, local_from, local_ahead}
+use Rattle.straight_core.proofs.Kept.{local_body, local_place}
 
 pub get_within : {X : Type 0} (xs : List X) (i : ℕ) (x : X) → slice_get xs i ≡ Some x → i < length xs
 get_within [] i x is = absurd (cc)

@@ -4,25 +4,25 @@ use Rattle.std.proofs.lemmas.List.{drop_all}
 use Rattle.std.proofs.lemmas.Bool.Decides.{nat_tests}
 use Rattle.ir_forms.specs.declared.runs.ObjNo.{ObjNo}
 use Rattle.ir_forms.specs.declared.runs.TaskNo.{TaskNo}
-use Rattle.step_core.specs.declared.code.LocalRow.{LocalRow}
-use Rattle.step_core.specs.declared.code.RootRow.{RootRow}
-use Rattle.step_core.specs.declared.code.RootRow.TheVariants.{Local, Launch, Await, Return}
-use Rattle.step_core.specs.declared.ends.Entry.{Entry}
-use Rattle.step_core.specs.declared.tasks.Body.{Body}
-use Rattle.step_core.specs.declared.tasks.Body.TheVariants.{Root, Launched}
-use Rattle.step_core.specs.declared.tasks.Task.{Task}
-use Rattle.step_core.specs.declared.tasks.Object.{Object as TheObject}
-use Rattle.step_core.specs.declared.tasks.ObjectState.{ObjectState}
-use Rattle.step_core.specs.declared.tasks.ObjectState.TheVariants.{Unset, Available}
-use Rattle.step_core.specs.declared.values.Val.{Val}
-use Rattle.step_core.specs.declared.values.Val.TheVariants.{Number, Object}
-use Rattle.step_core.specs.Registers.{value_at}
-use Rattle.step_core.specs.State.{State, made_ready, start_state}
-use Rattle.step_core.specs.Held.{HeldAnd}
-use Rattle.step_core.specs.declared.code.Straight.{Straight}
-use Rattle.step_core.specs.Step.{core_step, task_step, ready_step, body_step, root_step, launched_step, region_rows, await_value, await_object, awaits, ended, wake, wake_one, and_then}
-use Rattle.step_core.specs.Journal.{burst, longest_burst, after_burst, entry_after, replay}
-use Rattle.step_core.specs.Ahead.{local_ahead}
+use Rattle.straight_core.specs.declared.code.LocalRow.{LocalRow}
+use Rattle.straight_core.specs.declared.code.RootRow.{RootRow}
+use Rattle.straight_core.specs.declared.code.RootRow.TheVariants.{Local, Launch, Await, Return}
+use Rattle.straight_core.specs.declared.ends.Entry.{Entry}
+use Rattle.straight_core.specs.declared.tasks.Body.{Body}
+use Rattle.straight_core.specs.declared.tasks.Body.TheVariants.{Root, Launched}
+use Rattle.straight_core.specs.declared.tasks.Task.{Task}
+use Rattle.straight_core.specs.declared.tasks.Object.{Object as TheObject}
+use Rattle.straight_core.specs.declared.tasks.ObjectState.{ObjectState}
+use Rattle.straight_core.specs.declared.tasks.ObjectState.TheVariants.{Unset, Available}
+use Rattle.straight_core.specs.declared.values.Val.{Val}
+use Rattle.straight_core.specs.declared.values.Val.TheVariants.{Number, Object}
+use Rattle.straight_core.specs.Registers.{value_at}
+use Rattle.straight_core.specs.State.{State, made_ready, start_state}
+use Rattle.straight_core.specs.Held.{HeldAnd}
+use Rattle.straight_core.specs.declared.code.Straight.{Straight}
+use Rattle.straight_core.specs.Step.{core_step, task_step, ready_step, body_step, root_step, launched_step, region_rows, await_value, await_object, awaits, ended, wake, wake_one, and_then}
+use Rattle.straight_core.specs.Journal.{burst, longest_burst, after_burst, entry_after, replay}
+use Rattle.straight_core.specs.Ahead.{local_ahead}
 use Rattle.run_journal.specs.declared.faults.TaskLook.{TaskLook}
 use Rattle.run_journal.specs.declared.faults.ReplayFault.TheVariants.{NotARun}
 use Rattle.run_journal.specs.Replay.{with_ready, look, look_at, first_fault, fault_at}

@@ -1,8 +1,8 @@
 -- How much steps, bursts and entries make.
 use Rattle.std.specs.Prelude.{◌≡◌, ℕ, ◌+◌, ◌*◌, ◌≤◌, ◌<◌, ◌^◌, ◌-◌, length, Some}
-use Rattle.step_core.specs.declared.ends.Entry.{Entry}
-use Rattle.step_core.specs.State.{State}
-use Rattle.step_core.specs.Journal.{entry_after}
+use Rattle.straight_core.specs.declared.ends.Entry.{Entry}
+use Rattle.straight_core.specs.State.{State}
+use Rattle.straight_core.specs.Journal.{entry_after}
 
 -- there are numbers for one more entry
 pub record HasRoom (s : State) : Type 0 where

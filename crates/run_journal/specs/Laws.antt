@@ -1,9 +1,9 @@
 -- What holds of all journals.
 use Rattle.std.specs.Prelude.{◌≡◌, ◌≢◌, ℕ, ◌<◌, true, List, Option, Some, None, IsSome, MatchOption, ◌⊎◌, ◌↔◌, ⊤}
-use Rattle.step_core.specs.State.{State}
-use Rattle.step_core.specs.Step.{core_step}
-use Rattle.step_core.specs.Journal.{burst, longest_burst, entry_after, replay}
-use Rattle.step_core.specs.declared.ends.Entry.{Entry}
+use Rattle.straight_core.specs.State.{State}
+use Rattle.straight_core.specs.Step.{core_step}
+use Rattle.straight_core.specs.Journal.{burst, longest_burst, entry_after, replay}
+use Rattle.straight_core.specs.declared.ends.Entry.{Entry}
 use Rattle.run_journal.specs.declared.faults.TaskLook.{TaskLook}
 use Rattle.run_journal.specs.Replay.{look, first_fault}
 use Rattle.run_journal.specs.Lines.{journal_lines, AreEntries, IsFirstBadLine}

@@ -1,9 +1,9 @@
 -- What a replay tells of the first entry that isn't possible.
 use Rattle.std.specs.Prelude.{◌≡◌, ℕ, ◌+◌, List, [], ◌∷◌, Option, Some, None, is_some, slice_get, slice_set, ⊤}
-use Rattle.step_core.specs.declared.ends.Entry.{Entry}
-use Rattle.step_core.specs.declared.tasks.Task.{Task}
-use Rattle.step_core.specs.State.{State, made_ready}
-use Rattle.step_core.specs.Journal.{burst, longest_burst, entry_after}
+use Rattle.straight_core.specs.declared.ends.Entry.{Entry}
+use Rattle.straight_core.specs.declared.tasks.Task.{Task}
+use Rattle.straight_core.specs.State.{State, made_ready}
+use Rattle.straight_core.specs.Journal.{burst, longest_burst, entry_after}
 use Rattle.run_journal.specs.declared.faults.TaskLook.{TaskLook}
 use Rattle.run_journal.specs.declared.faults.ReplayFault.{ReplayFault}
 use Rattle.run_journal.specs.declared.faults.ReplayFault.TheVariants.{NotARun, OutOfMemory}

@@ -3,7 +3,7 @@ ghost use Rattle.run_journal.specs.declared.faults.JournalFault.TheVariants.{Out
 ghost use Rattle.run_journal.specs.declared.faults.ReplayFault.TheVariants.{OutOfMemory as NoMemory};
 
 use std::alloc::{AllocError, AllocFailed};
-use step_core::Entry;
+use straight_core::Entry;
 use thiserror::Error;
 
 /// Why bytes aren't a journal.

@@ -5,11 +5,7 @@ mod faults;
 mod growth;
 mod laws;
 mod reading;
-#[cfg(test)]
-mod replay_tests;
 mod replaying;
-#[cfg(test)]
-mod tests;
 mod writing;
 
 pub use faults::{JournalFault, ReplayFault, TaskLook};
@@ -19,5 +15,5 @@ pub use laws::{
 };
 pub use reading::read_journal;
 pub use replaying::{replay, take_entry, task_look};
-pub use step_core::Entry;
+pub use straight_core::Entry;
 pub use writing::{journal_text, push_journal};

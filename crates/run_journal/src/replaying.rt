@@ -1,14 +1,14 @@
 ghost use Rattle.std.specs.Prelude.{◌≡◌, ◌+◌, ◌-◌, ◌<◌, ◌≤◌, ◌^◌, length, Some, None, IfOk, IfErr, OnOk, MatchBool};
-ghost use Rattle.step_core.specs.State.{start_state};
-ghost use Rattle.step_core.specs.Journal.{burst, longest_burst, after_burst, entry_after};
-ghost use Rattle.step_core.specs.Journal as journals;
+ghost use Rattle.straight_core.specs.State.{start_state};
+ghost use Rattle.straight_core.specs.Journal.{burst, longest_burst, after_burst, entry_after};
+ghost use Rattle.straight_core.specs.Journal as journals;
 ghost use Rattle.run_journal.specs.Replay.{look, HasReplayFault};
 ghost use Rattle.run_journal.specs.Growth.{HasRoom};
 
 use crate::faults::{ReplayFault, TaskLook};
 use ir_forms::TaskNo;
 use std::alloc::{AllocError, Global};
-use step_core::{Core, Entry, Step, Straight};
+use straight_core::{Core, Entry, Step, Straight};
 
 /// The number of local steps at which a burst ends without a shared step.
 const LONGEST_BURST: u32 = 4096;

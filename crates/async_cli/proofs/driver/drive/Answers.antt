@@ -1,10 +1,10 @@
 use Rattle.std.proofs.Common.{arith, ap, ◌∙◌, inr, rules, length}
-use Rattle.step_core.specs.Journal.{replay}
+use Rattle.straight_core.specs.Journal.{replay}
 use Rattle.async_cli.specs.Held.{IsUnfinished}
 use Rattle.async_cli.proofs.Stuck.{when_true, when_false}
 use Rattle.async_cli.proofs.Driving.{possible-push, driven-push}
 use Rattle.async_cli.proofs.driver.drive.Goals as goal
-use Rattle.step_core.proofs.Live.{live_most}
+use Rattle.straight_core.proofs.Live.{live_most}
 
 pub overflow_cast-parked : goal.overflow_cast-parked
 overflow_cast-parked c =

@@ -1,5 +1,5 @@
 use Rattle.std.proofs.Common.{◌≡◌, ℕ, ◌<◌, None}
-use Rattle.step_core.specs.Step.{core_step}
+use Rattle.straight_core.specs.Step.{core_step}
 use Rattle.async_cli.proofs.driver.find_enabled.Given as goal
 
 -- none of the tasks before this one can take a step

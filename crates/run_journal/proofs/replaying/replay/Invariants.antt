@@ -1,4 +1,4 @@
-use Rattle.step_core.specs.State.{start_state}
+use Rattle.straight_core.specs.State.{start_state}
 use Rattle.run_journal.proofs.Entries.{IsReplayed}
 use Rattle.run_journal.proofs.replaying.replay.Given as goal
 

@@ -2,7 +2,7 @@
 use Rattle.std.proofs.Common.{arith}
 use Rattle.run_journal.proofs.Bursts.{burst_le}
 use Rattle.run_journal.proofs.BurstLoop.{next_taken, never_refused, all_taken}
-use Rattle.step_core.specs.Journal.{longest_burst}
+use Rattle.straight_core.specs.Journal.{longest_burst}
 use Rattle.run_journal.proofs.replaying.take_local.Goals as goal
 
 pub step-requires-clause-steps : goal.step-requires-clause-steps
