@@ -1,9 +1,8 @@
 -- From the tables to the first race.
-use Rattle.std.proofs.Common.{◌≡◌, ℕ, zero, suc, ◌+◌, ◌-◌, ◌<◌, ◌≤◌, ◌^◌, Bool, true, false, cond, List, [], ◌∷◌, ◌++◌, length, take, refl, sym, ap, subst, ◌∙◌, arith, Option, Some, None, add-one}
+use Rattle.std.proofs.Common.{◌≡◌, ℕ, zero, suc, ◌+◌, ◌-◌, ◌<◌, ◌≤◌, Bool, true, false, cond, List, [], ◌∷◌, ◌++◌, length, take, refl, sym, ap, subst, ◌∙◌, arith, Option, Some, None, add-one}
 use Rattle.std.specs.Prelude.{max, not, nat_le, ◌&&◌, slice_get, ◌⊎◌, ⊤}
 use mathlib.Core.Logic.{inl, inr}
 use Rattle.std.proofs.Math.Nat.{eq-or-lt_of_le}
-use Rattle.std.proofs.lemmas.Bool.{true≢false}
 use Rattle.std.proofs.lemmas.Slice.Eq.{bytes_eq-Decides}
 use Rattle.ir_forms.specs.declared.names.Action.{Action}
 use Rattle.ir_forms.specs.declared.names.Action.TheVariants.{Add, JoinAll, Await, AwaitAll}
@@ -13,7 +12,7 @@ use Rattle.ir_forms.specs.Names.{Path, same_path, same_made, maker, iteration_of
 use Rattle.race_order.specs.Known as known
 use Rattle.race_order.specs.Known.{Counts, Sight, greatest, one_more, own, learned, known_by_members, known_by_all, added, makes, after_entry, after_entries, knows_nothing}
 use Rattle.race_order.specs.Race.{entries_of, is_known, are_racing, races, IsAnswer}
-use Rattle.race_order.specs.Sights.{sight, AreNumbers, AreNumbered}
+use Rattle.race_order.specs.Sights.{sight}
 use Rattle.race_order.specs.Touch.{touched, alike, races_by}
 use Rattle.race_order.proofs.FirstRace.{within_or}
 use Rattle.race_order.proofs.Meets.{meets, clash_meets}
@@ -124,44 +123,7 @@ knows_few trace n p q = omega (arith, (few_all (take n trace) 0 (length (take n 
 pub taken_few : (trace : List TraceEntry) (n : ℕ) (p : Path) → (sight trace n).taken p ≤ n
 taken_few trace n p = omega (arith, (few_all (take n trace) 0 (length (take n trace)) knows_nothing (omega arith) few_first).taken p, take_few trace n)
 
--- ---- numbers of tasks
-
-pub numbers_none : (trace : List TraceEntry) (numbers : Path → ℕ) → ((p : Path) → numbers p ≡ 0) → AreNumbered trace 0 numbers
-numbers_none trace numbers h = record {
-  tells = λ p l. absurd (omega (arith, l, h p));
-  small = λ p. omega (arith, h p);
-  numbered = λ i d l e. absurd (omega (arith, l));
-}
-
-pub number_more : (trace : List TraceEntry) (n : ℕ) (e : TraceEntry) (before after : Path → ℕ) → slice_get trace n ≡ Some e → AreNumbered trace n before → ((q : Path) → after q ≡ cond (same_path e.task q) (n + 1) (before q)) → AreNumbered trace (n + 1) after
-number_more trace n e before after at h k = record {
-  tells = λ p. tells p (same_path e.task p) refl;
-  small = λ p. small p (same_path e.task p) refl;
-  numbered = λ i d l f. numbered d (same_path e.task d.task) refl i (eq-or-lt_of_le (let m : i ≤ n = omega (arith, l) in m)) f;
-} where
-  tells : (p : Path) (b : Bool) → same_path e.task p ≡ b → 0 < after p → (d : TraceEntry) × (slice_get trace (after p - 1) ≡ Some d) × (d.task ≡ p)
-  tells p true s l = (e, ap (λ m. slice_get trace m) (let f : after p - 1 ≡ n = omega (arith, k p ∙ ap (λ t. cond t (n + 1) (before p)) s) in f) ∙ at, (bytes_eq-Decides e.task p).0 s)
-  tells p false s l = let same : after p ≡ before p = k p ∙ ap (λ t. cond t (n + 1) (before p)) s in subst (λ m. (d : TraceEntry) × (slice_get trace (m - 1) ≡ Some d) × (d.task ≡ p)) (sym same) (h.tells p (subst (λ m. 0 < m) same l))
-
-  small : (p : Path) (b : Bool) → same_path e.task p ≡ b → after p ≤ n + 1
-  small p true s = omega (arith, k p ∙ ap (λ t. cond t (n + 1) (before p)) s)
-  small p false s = omega (arith, k p ∙ ap (λ t. cond t (n + 1) (before p)) s, h.small p)
-
-  numbered : (d : TraceEntry) (b : Bool) → same_path e.task d.task ≡ b → (i : ℕ) → (i ≡ n) ⊎ (i < n) → slice_get trace i ≡ Some d → 0 < after d.task
-  numbered d true s i o f = omega (arith, k d.task ∙ ap (λ t. cond t (n + 1) (before d.task)) s)
-  numbered d false s i (inr l) f = omega (arith, k d.task ∙ ap (λ t. cond t (n + 1) (before d.task)) s, h.numbered i d l f)
-  numbered d false s i (inl m) f =
-      let same : e ≡ d = cc (sym at ∙ (ap (λ x. slice_get trace x) (sym m) ∙ f)) in
-      absurd (true≢false (sym ((bytes_eq-Decides e.task d.task).1 (ap (λ (x : TraceEntry). x.task) same)) ∙ s))
-
-pub numbers_are : (trace : List TraceEntry) (d : ℕ) (numbers : Path → ℕ) → AreNumbered trace (length trace) numbers → length trace < 2 ^ d → d ≤ 64 → AreNumbers d numbers
-numbers_are trace d numbers h l m = record {
-  apart = λ p q pos e. apart p q pos e (h.tells p pos) (h.tells q (subst (λ n. 0 < n) e pos));
-  within = λ p. omega (arith, h.small p, l);
-  deep = m;
-} where
-  apart : (p q : Path) → 0 < numbers p → numbers p ≡ numbers q → (x : TraceEntry) × (slice_get trace (numbers p - 1) ≡ Some x) × (x.task ≡ p) → (y : TraceEntry) × (slice_get trace (numbers q - 1) ≡ Some y) × (y.task ≡ q) → p ≡ q
-  apart p q pos e x y = let same : x.0 ≡ y.0 = cc (sym x.1 ∙ (ap (λ n. slice_get trace (n - 1)) e ∙ y.1)) in sym x.2 ∙ (ap (λ (z : TraceEntry). z.task) same ∙ y.2)
+-- ---- places in a trace
 
 pub within_trace : (trace : List TraceEntry) (i : ℕ) (e : TraceEntry) → slice_get trace i ≡ Some e → i < length trace
 within_trace [] i e h = absurd (cc h)

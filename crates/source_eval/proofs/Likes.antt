@@ -21,9 +21,6 @@ use Rattle.source_eval.specs.Answered.{IsAnswered}
 use Rattle.source_eval.specs.declared.answers.Answered.{Answered}
 use Rattle.source_eval.specs.declared.answers.Answered.TheVariants as answered
 
-pub alike_itself : (w : World) → Alike w w
-alike_itself w = record { cells = λ b. refl; used = refl; groups = λ g. refl; ends = λ p. refl }
-
 capped_is : (c i : ℕ) → c ≡ capped i → c < 2 ^ 32 → i ≡ c
 capped_is c i e h = omega (arith, e, h)
 
