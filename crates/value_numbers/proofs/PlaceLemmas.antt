@@ -1,0 +1,107 @@
+-- The first places of numbers, as numbers are added.
+use Rattle.std.proofs.Common.{◌≡◌, ℕ, suc, ◌+◌, ◌<◌, cond, Bool, true, false, List, [], ◌∷◌, ◌++◌, take, length, get_or, nat_eq, Option, Some, None, unwrap_or, refl, sym, ap, ◌∙◌, arith}
+use Rattle.std.proofs.Math.Path.{fun_ext}
+use Rattle.std.proofs.lemmas.Bool.{eqb-true}
+use Rattle.std.proofs.lemmas.List.{take_more, map-append, length-map, length-take-le}
+use Rattle.std.specs.Option.{option_map, is_some}
+use Rattle.std.specs.declared.hash.FoldHasher.{FoldHasher}
+use Rattle.std.specs.declared.hash.BuildHasherDefault.{BuildHasherDefault}
+use Rattle.indexmap.specs.IndexMap.{IndexMap, get}
+use Rattle.ir_forms.specs.declared.ops.Func.{Func}
+use Rattle.ir_forms.specs.declared.ops.ValueNo.{ValueNo}
+use Rattle.source_meaning.specs.Renaming.{renamed_func}
+use Rattle.value_numbers.specs.Numbers.{as_numbers, defined_in, first_place, numbered_values, place_in, unknown, values_of}
+use Rattle.value_numbers.specs.Places.{place_at}
+
+-- the earlier place, where there is one
+abbrev or_else : Option ℕ → Option ℕ → Option ℕ
+or_else None o = o
+or_else (Some n) o = Some n
+
+-- ---- one number more
+
+added : (xs : List ℕ) (y x : ℕ) → first_place (xs ++ y ∷ []) x ≡ or_else (first_place xs x) (cond (nat_eq y x) (Some (length xs)) None)
+added [] y x = step (nat_eq y x)
+  where
+    step : (b : Bool) → cond b (Some 0) (option_map suc (let none : Option ℕ = None in none)) ≡ cond b (Some 0) None
+    step true = refl
+    step false = refl
+added (z ∷ xs) y x = step (nat_eq z x) (added xs y x)
+  where
+    later : (o : Option ℕ) (b : Bool) (n : ℕ) → option_map suc (or_else o (cond b (Some n) None)) ≡ or_else (option_map suc o) (cond b (Some (suc n)) None)
+    later None true n = refl
+    later None false n = refl
+    later (Some m) b n = refl
+
+    step : (b : Bool) → first_place (xs ++ y ∷ []) x ≡ or_else (first_place xs x) (cond (nat_eq y x) (Some (length xs)) None) →
+        cond b (Some 0) (option_map suc (first_place (xs ++ y ∷ []) x)) ≡ or_else (cond b (Some 0) (option_map suc (first_place xs x))) (cond (nat_eq y x) (Some (suc (length xs))) None)
+    step true again = refl
+    step false again = ap (option_map suc) again ∙ later (first_place xs x) (nat_eq y x) (length xs)
+
+missing : (o : Option ℕ) → is_some o ≡ false → o ≡ None
+missing None not = refl
+missing (Some n) not = cc
+
+keeps : (o : Option ℕ) → is_some o ≡ true → (other : Option ℕ) → or_else o other ≡ o
+keeps None some other = cc
+keeps (Some n) some other = refl
+
+or_none : (o : Option ℕ) → or_else o None ≡ o
+or_none None = refl
+or_none (Some n) = refl
+
+-- a number that had no place gets this one
+added-new : (xs : List ℕ) (y x : ℕ) → is_some (first_place xs y) ≡ false → cond (nat_eq y x) (Some (length xs)) (first_place xs x) ≡ first_place (xs ++ y ∷ []) x
+added-new xs y x fresh = step (nat_eq y x) refl ∙ sym (added xs y x)
+  where
+    step : (b : Bool) → nat_eq y x ≡ b → cond b (Some (length xs)) (first_place xs x) ≡ or_else (first_place xs x) (cond b (Some (length xs)) None)
+    step true equal =
+        let same : y ≡ x = eqb-true y x equal in
+        let none : first_place xs x ≡ None = missing (first_place xs x) (rw (← same) fresh) in
+        rw none refl
+    step false equal = sym (or_none (first_place xs x))
+
+-- and one that had a place keeps it
+added-old : (xs : List ℕ) (y x : ℕ) → is_some (first_place xs y) ≡ true → first_place xs x ≡ first_place (xs ++ y ∷ []) x
+added-old xs y x there = sym (added xs y x ∙ step (nat_eq y x) refl)
+  where
+    step : (b : Bool) → nat_eq y x ≡ b → or_else (first_place xs x) (cond b (Some (length xs)) None) ≡ first_place xs x
+    step true equal =
+        let same : y ≡ x = eqb-true y x equal in
+        keeps (first_place xs x) (rw (← same) there) (Some (length xs))
+    step false equal = or_none (first_place xs x)
+
+-- ---- one value more
+
+module _ (vs : List ValueNo) (i : ℕ) (d : ValueNo) (less : i < length vs) where
+  abbrev number : ValueNo → ℕ
+  number v = v.0
+
+  abbrev next : ℕ
+  next = number (get_or vs i d)
+
+  longer : as_numbers (take (i + 1) vs) ≡ as_numbers (take i vs) ++ next ∷ []
+  longer = ap as_numbers (take_more vs i d less) ∙ map-append number (take i vs) (get_or vs i d ∷ [])
+
+  counted : length (as_numbers (take i vs)) ≡ i
+  counted = length-map (take i vs) number ∙ length-take-le i vs (omega arith)
+
+  pub value-new : (x : ℕ) → is_some (first_place (as_numbers (take i vs)) next) ≡ false →
+      cond (nat_eq next x) (Some i) (first_place (as_numbers (take i vs)) x) ≡ first_place (as_numbers (take (i + 1) vs)) x
+  value-new x fresh =
+      ap (λ n. cond (nat_eq next x) (Some n) (first_place (as_numbers (take i vs)) x)) (sym counted)
+      ∙ added-new (as_numbers (take i vs)) next x fresh
+      ∙ ap (λ ns. first_place ns x) (sym longer)
+
+  pub value-old : (x : ℕ) → is_some (first_place (as_numbers (take i vs)) next) ≡ true →
+      first_place (as_numbers (take i vs)) x ≡ first_place (as_numbers (take (i + 1) vs)) x
+  value-old x there = added-old (as_numbers (take i vs)) next x there ∙ ap (λ ns. first_place ns x) (sym longer)
+
+-- ---- a function whose values are renamed by a map of their places
+
+pub numbered-by : (f g : Func) (places : IndexMap ℕ ℕ (BuildHasherDefault FoldHasher)) (vs : List ValueNo) →
+    g ≡ renamed_func (place_at places) f → vs ≡ values_of f → ((x : ℕ) → get nat_eq places x ≡ first_place (as_numbers vs) x) → g ≡ numbered_values f
+numbered-by f g places vs is all each =
+    let same : place_at places ≡ place_in (defined_in f) =
+    fun_ext (λ x. ap (λ (o : Option ℕ). unwrap_or o unknown) (each x) ∙ ap (λ (ws : List ValueNo). place_in (as_numbers ws) x) all) in
+    is ∙ ap (λ (σ : ℕ → ℕ). renamed_func σ f) same
