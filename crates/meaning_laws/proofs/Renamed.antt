@@ -29,9 +29,11 @@ use Rattle.source_meaning.specs.Rows.{cell_from, at_width, literal_bits, compare
 use Rattle.source_meaning.specs.Tasks.{Program, Scope, After, Joins, Turns, Tests, Repeats, Returns, Tries, Task, Pending, Awaits, Failing, Ask, Loop, Span, Enters, Adds, Launches, Next, Goes, Asks, Gave, FailedAt, bound}
 use Rattle.source_meaning.specs.Flow.{scope_of, called, entered, turned, tested, leaves, gives, caught, fails}
 use Rattle.source_meaning.specs.Steps.{chosen, selects, extends_sign, fits_width, value, number, numbers, is_among, is_used, adds, split_in, loop_of, enters_loop, enters_spans, does, acts, asked_sizes, group, next_op, next, or_fails, computes, result_width, written_width, binary, loads, stores, allocates, creates, asserts, loops, branches, awaits_each, awaits_for, child_of, launches, enters}
-use Rattle.source_meaning.specs.Renaming as like
+use Rattle.source_meaning.specs.Renaming as plain
+use Rattle.meaning_laws.specs.RenamedSteps.{StepIsRenamed, LikeAsk, same, joins_all, LikeNext, goes, asks, ends}
+use Rattle.meaning_laws.specs.RenamedSteps as like
 use Rattle.int_ops.specs.declared.BinOp.{BinOp}
-use Rattle.source_meaning.specs.Renaming.{NextIsRenamed, renamed_value, renamed_values, renamed_params, op_renamed, region_renamed, renamed_op, renamed_ops, renamed_region, renamed_node, renamed_func, IsRenamed, IsInjective, Sees, LikeScope, LikeFrames, end, joins, turns, tests, repeats, returns, tries, LikeLoop, LikePending, done, awaits, joining, failing, LikeTask, LikeAsk, same, joins_all, LikeNext, goes, asks, ends}
+use Rattle.source_meaning.specs.Renaming.{NextIsRenamed, renamed_value, renamed_values, renamed_params, op_renamed, region_renamed, renamed_op, renamed_ops, renamed_region, renamed_node, renamed_func, IsRenamed, IsInjective, Sees, LikeScope, LikeFrames, end, joins, turns, tests, repeats, returns, tries, LikeLoop, LikePending, done, awaits, joining, failing, LikeTask}
 
 -- ---- values under their names
 
@@ -89,12 +91,12 @@ module _ (σ : ℕ → ℕ → ℕ) (inj : IsInjective σ) where
   sees_put : (k : ℕ) (env env' : Env) (x : ℕ) (v : Val) → Sees σ k env env' → Sees σ k (put env x v) (put env' (σ k x) v)
   sees_put k env env' x v h y = sees_put_dec k env env' x v h y (ℕ_discrete x y)
 
-  sees_bind : (k : ℕ) (xs : List ValueNo) (vs : List Val) (env env' : Env) → Sees σ k env env' → Sees σ k (bind xs vs env) (bind (renamed_values (σ k) xs) vs env')
+  pub sees_bind : (k : ℕ) (xs : List ValueNo) (vs : List Val) (env env' : Env) → Sees σ k env env' → Sees σ k (bind xs vs env) (bind (renamed_values (σ k) xs) vs env')
   sees_bind k xs [] env env' h = h
   sees_bind k [] (v ∷ vs) env env' h = h
   sees_bind k (x ∷ xs) (v ∷ vs) env env' h = sees_bind k xs vs (put env x.0 v) (put env' (σ k x.0) v) (sees_put k env env' x.0 v h)
 
-  bound_like : (xs : List ValueNo) (vs : List Val) (t u : Task) → LikeTask σ t u → LikeTask σ (bound xs vs t) (bound (renamed_values (σ t.scope.func) xs) vs u)
+  pub bound_like : (xs : List ValueNo) (vs : List Val) (t u : Task) → LikeTask σ t u → LikeTask σ (bound xs vs t) (bound (renamed_values (σ t.scope.func) xs) vs u)
   bound_like xs vs t u h = record {
     pending = h.pending;
     rest = h.rest;
@@ -174,6 +176,25 @@ module _ (σ : ℕ → ℕ → ℕ) (inj : IsInjective σ) where
   leaves_like n env env' h r r' hs hs' vs (returns s t xs rest {fs = fs} {gs = gs} sc l) = goes _ _ (bound_like xs vs _ _ (record { pending = done; rest = refl; frames = l; scope = sc }))
   leaves_like n env env' h r r' hs hs' vs (tries s t xs rest {fs = fs} {gs = gs} sc l) = goes _ _ (bound_like xs (Number 1 ∷ []) _ _ (record { pending = done; rest = refl; frames = l; scope = sc }))
 
+  -- ---- functions
+
+  module _ (p q : Program) (same_program : IsRenamed σ p q) where
+    pub func_ops_like : (j : ℕ) (x : Option Func) → func_ops (option_map (renamed_func (σ j)) x) ≡ renamed_ops (σ j) (func_ops x)
+    func_ops_like j None = refl
+    func_ops_like j (Some f) = ap (λ r. r.ops) (region_parts (σ j) f.body)
+
+    func_params_like : (j : ℕ) (x : Option Func) → names_of (func_params (option_map (renamed_func (σ j)) x)) ≡ renamed_values (σ j) (names_of (func_params x))
+    func_params_like j None = refl
+    func_params_like j (Some f) = names_renamed (σ j) f.params
+
+    pub scope_like : (j : ℕ) (vs : List Val) → LikeScope σ (scope_of p j vs) (scope_of q j vs)
+    scope_like j vs = record {
+      func = refl;
+      nest = refl;
+      sees = subst (λ xs. Sees σ j (bind (names_of (func_params (slice_get p.funcs j))) vs []) (bind xs vs []))
+          (sym (ap (λ f. names_of (func_params f)) (same_program.funcs j) ∙ func_params_like j (slice_get p.funcs j))) (sees_bind j (names_of (func_params (slice_get p.funcs j))) vs [] [] (λ x. refl));
+    }
+
   -- ---- the rows
 
   module _ (p q : Program) (same_program : IsRenamed σ p q) (k : ℕ) (n : Nest) (env env' : Env) (h : Sees σ k env env') (rest : List Op) (fs gs : List (After × List Op)) (l : LikeFrames σ k fs gs) (o : Node) where
@@ -212,16 +233,16 @@ module _ (σ : ℕ → ℕ → ℕ) (inj : IsInjective σ) where
     binary_like b vs = computes_like (result_at (result_width o) b (number vs 0) (number vs 1))
 
     loads_like : (vs : List Val) → LikeNext σ (loads o vs t) (loads o' vs u)
-    loads_like vs = maybe_like (cell_from 0 (dims_in (value vs 0)) (numbers (drop 1 vs))) _ _ (λ i. asked_like _ _ (same _))
+    loads_like vs = maybe_like (cell_from 0 (dims_in (value vs 0)) (numbers (drop 1 vs))) _ _ (λ i. asked_like _ _ (same _ tt))
 
     stores_like : (vs : List Val) → LikeNext σ (stores o vs t) (stores o' vs u)
-    stores_like vs = maybe_like (cell_from 0 (dims_in (value vs 1)) (numbers (drop 2 vs))) _ _ (λ i. asked_no_result _ _ (same _))
+    stores_like vs = maybe_like (cell_from 0 (dims_in (value vs 1)) (numbers (drop 2 vs))) _ _ (λ i. asked_no_result _ _ (same _ tt))
 
     allocates_like : (vs : List Val) → LikeNext σ (allocates o vs t) (allocates o' vs u)
-    allocates_like vs = maybe_like (product_within most_cells (asked_sizes o vs)) _ _ (λ m. asked_like _ _ (same _))
+    allocates_like vs = maybe_like (product_within most_cells (asked_sizes o vs)) _ _ (λ m. asked_like _ _ (same _ tt))
 
     creates_like : (vs : List Val) → LikeNext σ (creates o vs t) (creates o' vs u)
-    creates_like vs = cond_next (nat_le (number vs 0) most_elements) _ _ _ _ (asked_like _ _ (same _)) fails_like
+    creates_like vs = cond_next (nat_le (number vs 0) most_elements) _ _ _ _ (asked_like _ _ (same _ tt)) fails_like
 
     asserts_like : (vs : List Val) → LikeNext σ (asserts o vs t) (asserts o' vs u)
     asserts_like vs = cond_next (nat_eq (number vs 0) 0) _ _ _ _ fails_like (goes _ _ both)
@@ -282,33 +303,17 @@ module _ (σ : ℕ → ℕ → ℕ) (inj : IsInjective σ) where
     adds_like : (vs : List Val) → LikeNext σ (adds p o vs t) (adds q o' vs u)
     adds_like vs =
         maybe_like (element_in (value vs 0)) _ _ (λ x.
-        subst (λ b. LikeNext σ (Asks o.at (Adds (group_in (value vs 1)) x (is_used p k (slice_get o.results 0))) o.results t) (Asks o.at (Adds (group_in (value vs 1)) x b) (renamed_values (σ k) o.results) u)) (sym used_like) (asked_like _ _ (same _)))
+        subst (λ b. LikeNext σ (Asks o.at (Adds (group_in (value vs 1)) x (is_used p k (slice_get o.results 0))) o.results t) (Asks o.at (Adds (group_in (value vs 1)) x b) (renamed_values (σ k) o.results) u)) (sym used_like) (asked_like _ _ (same _ tt)))
 
     -- ---- calls
-
-    func_ops_like : (j : ℕ) (x : Option Func) → func_ops (option_map (renamed_func (σ j)) x) ≡ renamed_ops (σ j) (func_ops x)
-    func_ops_like j None = refl
-    func_ops_like j (Some f) = ap (λ r. r.ops) (region_parts (σ j) f.body)
-
-    func_params_like : (j : ℕ) (x : Option Func) → names_of (func_params (option_map (renamed_func (σ j)) x)) ≡ renamed_values (σ j) (names_of (func_params x))
-    func_params_like j None = refl
-    func_params_like j (Some f) = names_renamed (σ j) f.params
-
-    scope_like : (j : ℕ) (vs : List Val) → LikeScope σ (scope_of p j vs) (scope_of q j vs)
-    scope_like j vs = record {
-      func = refl;
-      nest = refl;
-      sees = subst (λ xs. Sees σ j (bind (names_of (func_params (slice_get p.funcs j))) vs []) (bind xs vs []))
-          (sym (ap (λ f. names_of (func_params f)) (same_program.funcs j) ∙ func_params_like j (slice_get p.funcs j))) (sees_bind j (names_of (func_params (slice_get p.funcs j))) vs [] [] (λ x. refl));
-    }
 
     called_like : (a b : After) (c : Option ℕ) (vs : List Val) → ((j : ℕ) → LikeFrames σ j ((a, rest) ∷ fs) ((b, renamed_ops (σ k) rest) ∷ gs)) → LikeTask σ (called p a c vs t) (called q b c vs u)
     called_like a b None vs m = record { pending = done; rest = refl; frames = m k; scope = record { func = refl; nest = refl; sees = h } }
     called_like a b (Some j) vs m = record {
       pending = done;
-      rest = ap func_ops (same_program.funcs j) ∙ func_ops_like j (slice_get p.funcs j);
+      rest = ap func_ops (same_program.funcs j) ∙ func_ops_like p q same_program j (slice_get p.funcs j);
       frames = m j;
-      scope = scope_like j vs;
+      scope = scope_like p q same_program j vs;
     }
 
     returns_like : (vs : List Val) → LikeNext σ (does op.FuncCall p o vs t) (does op.FuncCall q o' vs u)
@@ -413,10 +418,10 @@ module _ (σ : ℕ → ℕ → ℕ) (inj : IsInjective σ) where
     does_like op.MemrefStore vs = stores_like vs
     does_like op.MemrefDim vs = computes_like _
     does_like op.AsyncExecute vs = launches_like vs
-    does_like op.AsyncAwait vs = maybe_like (element_in (value vs 0)) _ _ (λ x. asked_like _ _ (same _))
+    does_like op.AsyncAwait vs = maybe_like (element_in (value vs 0)) _ _ (λ x. asked_like _ _ (same _ tt))
     does_like op.AsyncCreateGroup vs = creates_like vs
     does_like op.AsyncAddToGroup vs = adds_like vs
-    does_like op.AsyncAwaitAll vs = asked_no_result _ _ (same _)
+    does_like op.AsyncAwaitAll vs = asked_no_result _ _ (same _ tt)
     does_like kind vs = rest_like (is_terminator kind) vs
 
   -- ---- the next step
@@ -441,7 +446,7 @@ module _ (σ : ℕ → ℕ → ℕ) (inj : IsInjective σ) where
         LikeNext σ (next p (record { pending = ps; rest = rest; frames = fs; scope = record { func = k; nest = n; env = env } }))
         (next q (record { pending = qs; rest = renamed_ops (σ k) rest; frames = gs; scope = record { func = k; nest = n; env = env' } }))
     pending_like rest fs gs l done = next_op_like rest fs gs l
-    pending_like rest fs gs l (awaits at x xs m) = asks at _ _ xs _ _ (same _) (record { pending = m; rest = refl; frames = l; scope = record { func = refl; nest = refl; sees = h } })
+    pending_like rest fs gs l (awaits at x xs m) = asks at _ _ xs _ _ (same _ tt) (record { pending = m; rest = refl; frames = l; scope = record { func = refl; nest = refl; sees = h } })
     pending_like rest fs gs l (joining at a b j m) = asks at _ _ [] _ _ (joins_all a b j) (record { pending = m; rest = refl; frames = l; scope = record { func = refl; nest = refl; sees = h } })
     pending_like rest fs gs l (failing at m) = caught_like at _ _ _ _ _ _ l
 
@@ -452,5 +457,22 @@ module _ (σ : ℕ → ℕ → ℕ) (inj : IsInjective σ) where
       (subst (λ n. LikeNext σ (next p t) (next q (record { pending = u.pending; rest = renamed_ops (σ t.scope.func) t.rest; frames = u.frames; scope = record { func = t.scope.func; nest = n; env = u.scope.env } }))) (sym m.scope.nest)
       (pending_like p q r t.scope.func t.scope.nest t.scope.env u.scope.env m.scope.sees t.rest t.frames u.frames m.frames m.pending)))
 
+pub step_is_renamed : StepIsRenamed
+step_is_renamed σ p q t u inj r m = next_like σ inj p q t u r m
+
+-- ---- the step alone
+
+module _ (σ : ℕ → ℕ → ℕ) where
+  ask_alone : (a b : Ask) → LikeAsk σ a b → plain.LikeAsk σ a b
+  ask_alone a b (same c n) = plain.same c
+  ask_alone a b (like.launches t u r h) = plain.launches t u r h
+  ask_alone a b (like.enters l m h) = plain.enters l m h
+  ask_alone a b (joins_all l m h) = plain.joins_all l m h
+
+  step_alone : (m n : Next) → LikeNext σ m n → plain.LikeNext σ m n
+  step_alone m n (goes t u h) = plain.goes t u h
+  step_alone m n (asks at a b xs t u h l) = plain.asks at a b xs t u (ask_alone a b h) l
+  step_alone m n (ends o) = plain.ends o
+
 pub next_is_renamed : NextIsRenamed
-next_is_renamed σ p q t u inj r m = next_like σ inj p q t u r m
+next_is_renamed σ p q t u inj r m = step_alone σ (next p t) (next q u) (step_is_renamed σ p q t u inj r m)

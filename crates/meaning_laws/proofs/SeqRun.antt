@@ -2,9 +2,8 @@
 use Rattle.std.specs.Prelude.{◌⊎◌, ltb, leb, is_some, IfSome, nat_lt, nat_le}
 use mathlib.Core.Logic.{inl, inr}
 use Rattle.std.proofs.Common.{◌≡◌, ◌<◌, ◌≤◌, ℕ, zero, suc, ◌+◌, ◌-◌, Bool, true, false, cond, List, [], ◌∷◌, ◌++◌, map, length, Option, Some, None, refl, sym, ap, subst, ◌∙◌, arith}
-use Rattle.std.proofs.lemmas.Slice.Eq.{bytes_eq-Decides}
 use Rattle.std.proofs.lemmas.List.{length-append, map-append}
-use Rattle.std.proofs.lemmas.Bool.{ltb-true, ltb-false, true≢false, le-leb}
+use Rattle.std.proofs.lemmas.Bool.{ltb-true, ltb-false, le-leb}
 use Rattle.std.specs.List.{find}
 use Rattle.std.specs.Option.{option_map}
 use Rattle.ir_forms.specs.declared.ops.ValueNo.{ValueNo}
@@ -29,123 +28,9 @@ use Rattle.source_meaning.specs.Start.{end_of, arguments}
 use Rattle.ir_forms.specs.declared.args.ArgValue.{ArgValue}
 use Rattle.ir_forms.specs.declared.args.ArgValue.TheVariants as arg
 use Rattle.source_meaning.specs.Runs.{IsEnd, SequentialIsARun}
+use Rattle.meaning_laws.specs.Turns.{IsTurn, TurnsAreReached}
 use Rattle.meaning_laws.proofs.Elements.{OkVals, OkTask, OkPending, OkJoining, OkOutcome, OkAsk, OkThen, OkNext, each_append, ok_get, ok_bound, ok_bind, ok_next, ok_joined, task_mono, joining_mono, outcome_mono, each_mono}
-
--- ---- options
-
-none≢some : {X : Type 0} (x : X) → None ≡ Some x → ⊥
-none≢some {X} x e = subst IsNothing e tt where
-  IsNothing : Option X → Type 0
-  IsNothing None = Unit {0}
-  IsNothing (Some y) = ⊥
-
-some_inj : {X : Type 0} (x y : X) → Some x ≡ Some y → x ≡ y
-some_inj x y e = ap (λ o. maybe x (λ z. z) o) e
-
-cond_false : {X : Type 0} (b : Bool) (x y z : X) → b ≡ false → y ≡ z → cond b x y ≡ z
-cond_false true x y z e f = absurd (true≢false e)
-cond_false false x y z e f = f
-
-cond_true : {X : Type 0} (b : Bool) (x y : X) → b ≡ true → cond b x y ≡ x
-cond_true true x y e = refl
-cond_true false x y e = absurd (true≢false (sym e))
-
--- ---- paths
-
-path_yes : (a b : Path) → same_path a b ≡ true → a ≡ b
-path_yes a b e = (bytes_eq-Decides a b).0 e
-
-path_same : (a : Path) → same_path a a ≡ true
-path_same a = (bytes_eq-Decides a a).1 refl
-
-path_no : (a b : Path) → (a ≡ b → ⊥) → same_path a b ≡ false
-path_no a b n = split (same_path a b) refl where
-  split : (c : Bool) → same_path a b ≡ c → same_path a b ≡ false
-  split true e = absurd (n (path_yes a b e))
-  split false e = e
-
-path_sym : (a b : Path) → same_path a b ≡ false → (b ≡ a → ⊥)
-path_sym a b e i = true≢false (sym (path_same a) ∙ (ap (λ x. same_path a x) (sym i) ∙ e))
-
--- ---- what a list says of a path
-
-abbrev V : Type 0
-V = Task × ℕ
-
-abbrev at : List (Path × V) → Path → Option V
-at [] q = None
-at (x ∷ xs) q = cond (same_path x.0 q) (Some x.1) (at xs q)
-
-abbrev or : Option V → Option V → Option V
-or None y = y
-or (Some x) y = Some x
-
-cond_or : (b : Bool) (v : V) (x y z : Option V) → x ≡ or y z → cond b (Some v) x ≡ or (cond b (Some v) y) z
-cond_or true v x y z e = refl
-cond_or false v x y z e = e
-
-at_append : (xs ys : List (Path × V)) (q : Path) → at (xs ++ ys) q ≡ or (at xs q) (at ys q)
-at_append [] ys q = refl
-at_append (x ∷ xs) ys q = cond_or (same_path x.0 q) x.1 (at (xs ++ ys) q) (at xs q) (at ys q) (at_append xs ys q)
-
-abbrev assoc : List Live → List (Path × V)
-assoc live = map (λ l. (l.path, (l.task, l.taken))) live
-
-replaced_other : (l : Live) (live : List Live) (q : Path) → same_path l.path q ≡ false → at (assoc (replaced l live)) q ≡ at (assoc live) q
-replaced_other l [] q n = refl
-replaced_other l (m ∷ live) q n = split (same_path m.path l.path) refl (replaced_other l live q n) where
-  split : (b : Bool) → same_path m.path l.path ≡ b → at (assoc (replaced l live)) q ≡ at (assoc live) q → at (assoc (cond b l m ∷ replaced l live)) q ≡ at (assoc (m ∷ live)) q
-  split true e ih = rw (n, path_yes m.path l.path e, n) ih
-  split false e ih = ap (λ x. cond (same_path m.path q) (Some (m.task, m.taken)) x) ih
-
-replaced_same : (l : Live) (live : List Live) (w : V) → at (assoc live) l.path ≡ Some w → at (assoc (replaced l live)) l.path ≡ Some (l.task, l.taken)
-replaced_same l [] w h = absurd (none≢some w h)
-replaced_same l (m ∷ live) w h = split (same_path m.path l.path) refl (replaced_same l live w) where
-  split : (b : Bool) → same_path m.path l.path ≡ b → (at (assoc live) l.path ≡ Some w → at (assoc (replaced l live)) l.path ≡ Some (l.task, l.taken)) → at (assoc (cond b l m ∷ replaced l live)) l.path ≡ Some (l.task, l.taken)
-  split true e ih = rw (path_same l.path) refl
-  split false e ih = rw e (ih (subst (λ b. cond b (Some (m.task, m.taken)) (at (assoc live) l.path) ≡ Some w) e h))
-
-without_other : (p : Path) (live : List Live) (q : Path) → same_path p q ≡ false → at (assoc (without p live)) q ≡ at (assoc live) q
-without_other p [] q n = refl
-without_other p (m ∷ live) q n = split (same_path m.path p) refl (without_other p live q n) where
-  split : (b : Bool) → same_path m.path p ≡ b → at (assoc (without p live)) q ≡ at (assoc live) q → at (assoc (cond b (without p live) (m ∷ without p live))) q ≡ at (assoc (m ∷ live)) q
-  split true e ih = rw (path_yes m.path p e, n) ih
-  split false e ih = ap (λ x. cond (same_path m.path q) (Some (m.task, m.taken)) x) ih
-
-without_same : (p : Path) (live : List Live) → at (assoc (without p live)) p ≡ None
-without_same p [] = refl
-without_same p (m ∷ live) = split (same_path m.path p) refl (without_same p live) where
-  split : (b : Bool) → same_path m.path p ≡ b → at (assoc (without p live)) p ≡ None → at (assoc (cond b (without p live) (m ∷ without p live))) p ≡ None
-  split true e ih = ih
-  split false e ih = rw e ih
-
--- the task that the list has for the path
-record Found (live : List Live) (q : Path) (v : V) : Type 0 where
-  first : Task
-  answers : List Answer
-  found : find (λ l. same_path l.path q) live ≡ Some (record { path = q; first = first; answers = answers; task = v.0; taken = v.1 })
-
-is_live : (l : Live) (q : Path) (v : V) → l.path ≡ q → (l.task, l.taken) ≡ v → Some l ≡ Some (record { path = q; first = l.first; answers = l.answers; task = v.0; taken = v.1 })
-is_live l q v e f =
-    subst (λ q. Some l ≡ Some (record { path = q; first = l.first; answers = l.answers; task = v.0; taken = v.1 })) e
-    (subst (λ v. Some l ≡ Some (record { path = l.path; first = l.first; answers = l.answers; task = v.0; taken = v.1 })) f refl)
-
-found_at : (live : List Live) (q : Path) (v : V) → at (assoc live) q ≡ Some v → Found live q v
-found_at [] q v h = absurd (none≢some v h)
-found_at (m ∷ live) q v h = split (same_path m.path q) refl (found_at live q v) where
-  split : (b : Bool) → same_path m.path q ≡ b → (at (assoc live) q ≡ Some v → Found live q v) → Found (m ∷ live) q v
-  split true e ih = record {
-    first = m.first;
-    answers = m.answers;
-    found = rw e (is_live m q v (path_yes m.path q e) (some_inj (m.task, m.taken) v (subst (λ b. cond b (Some (m.task, m.taken)) (at (assoc live) q) ≡ Some v) e h)));
-  }
-  split false e ih =
-      let f : Found live q v = ih (subst (λ b. cond b (Some (m.task, m.taken)) (at (assoc live) q) ≡ Some v) e h) in
-      record { first = f.first; answers = f.answers; found = cond_false (same_path m.path q) (Some m) (find (λ l. same_path l.path q) live) _ e f.found }
-
-none_left : (live : List Live) → ((q : Path) → at (assoc live) q ≡ None) → live ≡ []
-none_left [] h = refl
-none_left (m ∷ live) h = absurd (none≢some (m.task, m.taken) (sym (h m.path) ∙ rw (path_same m.path) refl))
+use Rattle.meaning_laws.proofs.Listed.{none≢some, some_inj, cond_false, cond_true, path_yes, path_same, path_no, V, at, or, at_append, assoc, replaced_other, replaced_same, without_other, without_same, Found, found_at, none_left}
 
 -- ---- the stack, as such a list
 
@@ -983,3 +868,26 @@ sequential_is_a_run p entry args end trace ends =
     let c : Closes p entry end trace (first_order p entry args) =
     subst (λ m. Comes p entry m (first_order p entry args)) ends.comes (moves_come p entry ends.steps (start p entry args) (first_order p entry args).live [] (first_sim p entry args)) ends.is_end in
     record { last = c.last; reached = record { order = c.order; comes = c.comes }; finished = c.finished; shows = c.shown_so; ends = c.ends }
+
+turn_of : (p : Program) (entry : ℕ) (args : List ArgValue) (s : Sequence) (top : Running) (below : List Running) → s.stack ≡ top ∷ below → Went p entry s (first_order p entry args) → IsTurn p entry args s top
+turn_of p entry args s top below e went =
+    let looks : at (assoc went.live) top.path ≡ Some (top.task, top.taken) =
+    went.sim.looks top.path ∙ (ap (λ st. at (expand st) top.path) e ∙ cond_true (same_path top.path top.path) (Some (top.task, top.taken)) (at (pend_of top.path top.taken top.begun top.task.pending ++ expand below) top.path) (path_same top.path)) in
+    let here : Found went.live top.path (top.task, top.taken) = found_at went.live top.path (top.task, top.taken) looks in
+    record {
+      at = record { live = went.live; world = s.world; log = went.log };
+      reached = record { order = went.order; comes = went.comes };
+      world = refl;
+      shows = went.sim.shown_so;
+      live = record { path = top.path; first = here.first; answers = here.answers; task = top.task; taken = top.taken };
+      found = here.found;
+      path = refl;
+      task = refl;
+      taken = refl;
+    }
+
+pub turns_are_reached : TurnsAreReached
+unfolding Comes
+turns_are_reached p entry args n s top below comes e =
+    turn_of p entry args s top below e
+    (subst (λ m. Comes p entry m (first_order p entry args)) comes (moves_come p entry n (start p entry args) (first_order p entry args).live [] (first_sim p entry args)))

@@ -1,1 +1,3 @@
+pub mod RenamedSteps
+pub mod Turns
 pub mod Worked

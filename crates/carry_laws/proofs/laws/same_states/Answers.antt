@@ -1,0 +1,5 @@
+use Rattle.carry_laws.proofs.Law.{same_states as law}
+use Rattle.carry_laws.proofs.laws.same_states.Goals as goal
+
+pub returns : goal.returns
+returns c s = law c.A.Alike.like c.A.Alike.kept
