@@ -1,0 +1,14 @@
+pub mod Alike
+pub mod Sight
+pub mod Sound
+pub mod Levels
+pub mod Plain
+pub mod Making
+pub mod Choosing
+pub mod Top
+pub mod Growing
+pub mod Whole
+pub mod Numbered
+pub mod Facts
+pub mod Uses
+pub mod Merges
