@@ -1,0 +1,5 @@
+use Rattle.check_laws.proofs.Numbers.{division_is_tested as law}
+use Rattle.check_laws.proofs.laws.division_is_tested.Goals as goal
+
+pub returns : goal.returns
+returns c = law
