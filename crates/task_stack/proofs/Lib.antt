@@ -1,0 +1,4 @@
+pub mod Puts
+pub mod Standings
+pub mod Calls
+pub mod Worked

@@ -1,0 +1,10 @@
+pub mod Effects
+pub mod Registers
+pub mod Numbers
+pub mod Frames
+pub mod Local
+pub mod Room
+pub mod Waiting
+pub mod Worked
+pub mod Laws
+pub mod Shared
