@@ -1,0 +1,9 @@
+pub mod Bytes
+pub mod Fitting
+pub mod Forms
+pub mod Known
+pub mod Numbered
+pub mod Shown
+pub mod Sizes
+pub mod Types
+pub mod Values
