@@ -1,0 +1,4 @@
+pub mod PlaceLemmas
+pub mod KeyLemmas
+pub mod NameLemmas
+pub mod Walked
