@@ -1,0 +1,5 @@
+pub mod Tree
+pub mod Code
+pub mod Lowered
+pub mod Scopes
+pub mod Bodies
