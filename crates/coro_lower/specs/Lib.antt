@@ -1,0 +1,4 @@
+pub mod Layout
+pub mod Registers
+pub mod Rows
+pub mod Shape
