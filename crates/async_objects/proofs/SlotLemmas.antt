@@ -231,3 +231,24 @@ search_high first last slots m n s rising h e high =
     ⊎_elim (λ y. ⊎_elim (λ same. absurd (let is : s.number ≡ t.0.number = ap (λ v. v.number) (some_is s t.0 (sym e ∙ (ap (slice_get slots) same.1 ∙ t.1))) in omega (arith, is, high, t.2)))
     (λ d. let up : s.number < t.0.number = number_rises first last slots m (place_in slots n) s t.0 rising e t.1 (grind (arith, d.1, y.1)) in absurd (omega (arith, up, high, t.2))) (eqb_tells m (place_in slots n)))
     (λ z. z.1) (leb_tells m (place_in slots n))
+
+place_first : (slots : List Slot) (p n : ℕ) (s : Slot) → slice_get slots p ≡ Some s → s.number ≡ n → place_in slots n ≤ p
+place_first [] p n s e is = omega arith
+place_first (t ∷ slots) zero n s e is = by_eq t.number n (λ b. cond b 0 (place_in slots n + 1) ≤ 0) (λ _. omega arith) (λ d. absurd (d (ap (λ u. u.number) (some_is t s e) ∙ is)))
+place_first (t ∷ slots) (suc p) n s e is = by_eq t.number n (λ b. cond b 0 (place_in slots n + 1) ≤ suc p) (λ _. omega arith) (λ _. let more : place_in slots n ≤ p = place_first slots p n s e is in omega (arith, more))
+
+-- the count of a slot that was searched for
+module _ (slots : List Slot) (p n : ℕ) (s : Slot) (h : p < length slots) (e : slice_get slots p ≡ Some s) (found : place_in slots n < length slots → p ≡ place_in slots n) where
+  pub search_count : s.number ≡ n → s.count ≡ count_in slots n
+  search_count same =
+      let first : place_in slots n ≤ p = place_first slots p n s e same in
+      sym (place_held (λ t. t.count) 0 slots n s (ap (slice_get slots) (sym (found (omega (arith, first, h)))) ∙ e))
+
+  pub search_none : (s.number ≡ n → ⊥) → 0 ≡ count_in slots n
+  search_none d = ⊎_elim (λ t. absurd (d (place_number slots n s (ap (slice_get slots) (sym (found (place_there slots n (omega (arith, t.1))))) ∙ e)))) (λ f. omega (arith, f.1)) (leb_tells 1 (count_in slots n))
+
+-- past the last number nothing is held
+pub held_after : {X : Type 0} (f : Slot → X) (other : X) (first last : ℕ) (slots : List Slot) (m : ℕ) → AreRising first last slots → last ≤ m → held f other slots m ≡ other
+held_after f other first last [] m rising h = refl
+held_after f other first last (s ∷ slots) m rising h = by_eq s.number m (λ b. cond b (f s) (held f other slots m) ≡ other)
+    (λ e. let bound : s.number + 1 ≤ last = rising_bound (s.number + 1) last slots rising.1 in absurd (omega (arith, e, bound, h))) (λ _. held_after f other (s.number + 1) last slots m rising.1 h)

@@ -9,7 +9,7 @@ use Rattle.std.specs.List.{filter}
 use Rattle.async_objects.specs.Counts.{count_at, put_count, live}
 use Rattle.async_objects.specs.Slots.{Kept, held, object_in, count_in, listed, place_in, AreRising, AreBlank, IsSwept, live_in}
 use Rattle.async_objects.proofs.ListLemmas.{by_eq, set_none, listed_length, listed_get, listed_same, listed_set, listed_more}
-use Rattle.async_objects.proofs.SlotLemmas.{place_there, place_number, place_held, held_set, held_before, rising_bound, rising_swept, empty_swept, live_swept, held_swept, counts_empty, has_count, live_listed}
+use Rattle.async_objects.proofs.SlotLemmas.{place_there, place_number, place_held, held_set, held_before, rising_bound, rising_swept, empty_swept, live_swept, held_swept, held_after, counts_empty, has_count, live_listed}
 
 -- ---- counts as a list
 
@@ -96,6 +96,13 @@ module _ (slots : List Slot) (made room : ℕ) (k : Kept) (v : seen slots made r
 
     pub put_number : (n : ℕ) → seen (slice_set slots p (record { number = s.number; count = n; object = s.object })) made room ≡ record { objects = k.objects; counts = put_count k.counts o n; room = k.room }
     put_number n = put_both n s.object ∙ ap (λ objects. record { objects = objects; counts = put_count k.counts o n; room = k.room }) same_object
+
+-- the count of any number
+pub count_seen : (slots : List Slot) (made room : ℕ) (k : Kept) → seen slots made room ≡ k → AreRising 0 made slots → (o : ℕ) → count_in slots o ≡ count_at k.counts o
+count_seen slots made room k v rising o =
+    subst (λ j. count_in slots o ≡ count_at j.counts o) v (⊎_elim
+    (λ f. held_after (λ t. t.count) 0 0 made slots o rising f.1 ∙ sym (count_past (listed made (count_in slots)) o (rw (listed_length made (count_in slots)) f.1)))
+    (λ t. sym (count_get (listed made (count_in slots)) o _ (listed_get made (count_in slots) o t.1))) (leb_tells made o))
 
 -- ---- a slot more
 

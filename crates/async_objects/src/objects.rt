@@ -2,8 +2,8 @@
 ghost use Rattle.std.specs.Prelude.{◌≡◌, ◌<◌, ◌≤◌, ◌∷◌, [], ◌+◌, ◌-◌, ◌^◌, true, false, length, IfOk, IfErr, OnErr};
 ghost use Rattle.async_objects.specs.Reserved.{grown};
 ghost use Rattle.async_objects.specs.Objects.{object_at, is_done, is_group, is_open, is_unset, state_of, takes_more, stored, set_to, added};
-ghost use Rattle.async_objects.specs.Counts.{count_at, put_count, live, less, more, all_changed, freed, set_changes, IsThere};
-ghost use Rattle.async_objects.specs.Sound.{awaiting, IsSound};
+ghost use Rattle.async_objects.specs.Counts.{count_at, put_count, live, less, more, all_changed, freed, set_changes, is_there, IsThere};
+ghost use Rattle.async_objects.specs.Sound.{awaiting, pending, IsSound};
 ghost use Rattle.async_objects.specs.Tables.{with_objects, with_created, with_set, with_element, with_less, with_more, CreateCause, AddCause, IsAwaited, IsDropped, CanDrop, CanRelease};
 
 use crate::awaiters::{add_last, give_back, spare_places, take_place};
@@ -110,6 +110,52 @@ impl Objects {
         );
         lower_all(&mut self.slots, &mut self.spare, groups.as_slice(), gone);
         lower_one(&mut self.slots, &mut self.spare, o, gone);
+    }
+
+    /// Whether an object was made and not taken out.
+    pub fn is_there(&self, o: ObjNo) -> bool
+        ensures { result ≡ is_there self.now.counts o }
+    {
+        self.slots.count(o) > 0
+    }
+
+    /// What an object is.
+    pub fn kind(&self, o: ObjNo) -> Kind
+        requires { IsThere self.now.counts o }
+        ensures { result ≡ (object_at self.now.objects o).kind }
+    {
+        self.slots.object(o).kind
+    }
+
+    /// How many references an object has; one that isn't there has none.
+    pub fn count(&self, o: ObjNo) -> u64
+        ensures { result ≡ count_at self.now.counts o.0 }
+    {
+        self.slots.count(o)
+    }
+
+    /// How many groups wait for an object.
+    pub fn groups(&self, o: ObjNo) -> usize
+        requires { IsThere self.now.counts o }
+        ensures { result ≡ length (object_at self.now.objects o).memberships }
+    {
+        self.slots.object(o).memberships.len()
+    }
+
+    /// How many tasks await objects.
+    pub fn waiting(&self) -> u64
+        ensures { result ≡ awaiting self.now.objects }
+    {
+        self.places - self.spare.len() as u64
+    }
+
+    /// How many elements of a group aren't set yet. A token or a value has none.
+    pub fn pending(&self, o: ObjNo) -> u64
+        requires { IsThere self.now.counts o }
+        ensures { result ≡ pending (object_at self.now.objects o) }
+    {
+        let members = self.slots.object(o).members;
+        members.added.saturating_sub(members.done)
     }
 
     /// How an object stands. A group is in error where an element failed.
@@ -234,6 +280,13 @@ impl Objects {
     {
         let mut object = self.slots.take_out(o);
         give_back(&mut object.awaiters, &mut self.spare);
+    }
+
+    /// How many objects were made.
+    pub fn made(&self) -> u32
+        ensures { result ≡ length self.now.objects }
+    {
+        self.slots.made()
     }
 
     /// How many objects are there.

@@ -44,11 +44,11 @@ impl Model for Slots {
     ghost invariant = { λ s. AreRising 0 s.made s.slots.items × AreBlank s.slots.items × (s.live ≡ live_in s.slots.items) × (2 * s.room ≤ vec_capacity s.slots) };
 }
 
-/// The place of the slot of this number, which has a count.
-fn place_of(slots: &[Slot], made: u32, number: u32) -> usize
+/// The place at which the slot of this number stands, if it stands anywhere.
+fn search(slots: &[Slot], made: u32, number: u32) -> usize
     requires rising { AreRising 0 made slots.now }
-    requires there { 0 < count_in slots.now number }
-    ensures place { result ≡ place_in slots.now number }
+    requires some { 0 < length slots.now }
+    ensures place { place_in slots.now number < length slots.now → result ≡ place_in slots.now number }
     ensures within { result < length slots.now }
 {
     let mut low = 0;
@@ -62,6 +62,29 @@ fn place_of(slots: &[Slot], made: u32, number: u32) -> usize
         }
     }
     low
+}
+
+/// The place of the slot of this number, which has a count.
+#[tactic(auto, using(crate::proofs::SlotLemmas::place_there))]
+fn place_of(slots: &[Slot], made: u32, number: u32) -> usize
+    requires rising { AreRising 0 made slots.now }
+    requires there { 0 < count_in slots.now number }
+    ensures place { result ≡ place_in slots.now number }
+    ensures within { result < length slots.now }
+{
+    search(slots, made, number)
+}
+
+/// The count of the slot of this number; one that is missing has none.
+fn count_of(slots: &[Slot], made: u32, number: u32) -> u64
+    requires { AreRising 0 made slots.now }
+    ensures { result ≡ count_in slots.now number }
+{
+    if slots.is_empty() {
+        return 0;
+    }
+    let slot = &slots[search(slots, made, number)];
+    if slot.number == number { slot.count } else { 0 }
 }
 
 /// Makes a place for one more slot. Where most objects have gone, their slots go too.
@@ -153,13 +176,11 @@ impl Slots {
         &mut slot.object
     }
 
-    /// How many references the object of this number has.
+    /// How many references the object of this number has; one that isn't there has none.
     pub(crate) fn count(&self, o: ObjNo) -> u64
-        requires { IsThere self.now.counts o }
         ensures { result ≡ count_at self.now.counts o.0 }
     {
-        let at = place_of(self.slots.as_slice(), self.made, o.0);
-        self.slots[at].count
+        count_of(self.slots.as_slice(), self.made, o.0)
     }
 
     /// Gives the object of this number another count.

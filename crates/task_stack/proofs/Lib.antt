@@ -1,4 +1,5 @@
 pub mod Puts
 pub mod Standings
 pub mod Calls
+pub mod AheadLemmas
 pub mod Worked

@@ -8,3 +8,4 @@ pub mod Waiting
 pub mod Worked
 pub mod Laws
 pub mod Shared
+pub mod Ahead

@@ -1,12 +1,20 @@
 -- What shared steps see of a stack, and do to it.
-use Rattle.std.specs.Prelude.{List, [], ◌∷◌, Option, Some, None}
+use Rattle.std.specs.Prelude.{◌≡◌, List, [], ◌∷◌, Option, Some, None}
 use Rattle.low_forms.specs.declared.code.Reg.{Reg}
 use Rattle.low_forms.specs.declared.code.Instr.{Instr}
 use Rattle.low_forms.specs.declared.code.Term.{Term}
 use Rattle.low_forms.specs.declared.code.LowFunc.{LowFunc}
 use Rattle.low_forms.specs.declared.code.LowModule.{LowModule}
 use Rattle.source_meaning.specs.Values.{maybe}
+use Rattle.async_objects.specs.declared.kinds.AddError.{AddError}
+use Rattle.async_objects.specs.declared.kinds.AddError.TheVariants as add_error
+use Rattle.async_objects.specs.declared.kinds.CreateError.{CreateError}
+use Rattle.async_objects.specs.declared.kinds.CreateError.TheVariants as create_error
+use Rattle.async_objects.specs.declared.kinds.Kind.TheVariants.{Group}
 use Rattle.async_objects.specs.declared.kinds.Val.{Val}
+use Rattle.async_objects.specs.declared.object.Object.{Object}
+use Rattle.async_objects.specs.Counts.{live}
+use Rattle.async_objects.specs.Tables.{Table}
 use Rattle.task_stack.specs.declared.frames.Activation.{Activation}
 use Rattle.task_stack.specs.declared.frames.Saved.{Saved}
 use Rattle.task_stack.specs.declared.frames.Saved.TheVariants as saved
@@ -55,3 +63,15 @@ resumed stack = passed (with_top stack (record { current = stack.top.current; sa
 -- the working frame becomes the copy
 abbrev pub becomes : Activation → Stack → Stack
 becomes copy stack = with_top stack (record { current = copy; saved = saved.Copied })
+
+-- ---- what a refusal says; want of memory says nothing
+
+-- as many objects are there as may be
+abbrev pub CreateRefusal : CreateError → Table → Type 0
+CreateRefusal (create_error.ObjectsFull n) t = (n ≡ live t.counts) × (live t.counts ≡ t.limit)
+CreateRefusal create_error.OutOfMemory t = Unit {0}
+
+-- the group has as many elements as its size
+abbrev pub AddRefusal : AddError → Object → Type 0
+AddRefusal (add_error.GroupFull size) g = (g.kind ≡ Group size) × (g.members.added ≡ size)
+AddRefusal add_error.OutOfMemory g = Unit {0}

@@ -1,6 +1,7 @@
 //! The stack of one task of lowered code: its frames and kept copies, and the steps that it takes by itself.
 #![tactic(auto)]
 
+mod ahead;
 mod effects;
 mod frames;
 pub mod laws;

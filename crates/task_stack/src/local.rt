@@ -400,7 +400,7 @@ fn side(saved: &Saved) -> Option<usize>
 }
 
 /// What an instruction that counts references says of its operand. A number is no object, and isn't counted.
-fn count_step(attr: LowAttr, adds: bool, val: Val) -> Option<CountStep>
+pub(crate) fn count_step(attr: LowAttr, adds: bool, val: Val) -> Option<CountStep>
     ensures { result ≡ count_step adds (count_of attr) val }
 {
     match val {

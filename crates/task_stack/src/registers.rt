@@ -1,10 +1,16 @@
 //! The registers of a frame.
-ghost use Rattle.std.specs.Prelude.{◌≡◌, ◌≤◌, ◌+◌, vec_len, [], IfOk, OnOk, OnErr, ◌↔◌, IsTrue, vec_capacity};
+ghost use Rattle.std.specs.Prelude.{◌≡◌, ◌≤◌, ◌<◌, ◌+◌, ◌-◌, ◌^◌, ◌∷◌, vec_len, length, [], true, false, IfOk, IfErr, OnOk, OnErr, ◌↔◌, IsTrue, vec_capacity};
 ghost use Rattle.task_stack.specs.Registers.{held, put, bind, values_at, value, number, number_in};
 ghost use Rattle.async_objects.specs.declared.kinds.Val.{Val};
 ghost use Rattle.task_stack.specs.Room.{room_of};
+ghost use Rattle.task_stack.specs.Shared.{CreateRefusal, AddRefusal};
+ghost use Rattle.async_objects.specs.Objects.{object_at, is_group, takes_more, added};
+ghost use Rattle.async_objects.specs.Counts.{count_at, live, IsThere};
+ghost use Rattle.async_objects.specs.Reserved.{grown};
+ghost use Rattle.async_objects.specs.Tables.{with_created, with_element};
 
-use async_objects::Val;
+use async_objects::{AddError, CreateError, Kind, Objects, Val, WokenList};
+use ir_forms::ObjNo;
 use low_forms::Reg;
 use std::alloc::{AllocError, Global};
 use std::marker::Model;
@@ -80,6 +86,59 @@ impl Registers {
         reserve_to(&mut self.values, room_of(regs))?;
         put_all(&mut self.values, regs, vals);
         Ok(())
+    }
+
+    /// Makes an object and gives it to these registers, or does neither.
+    pub(crate) fn bind_created(
+        &mut self,
+        objects: &mut Objects,
+        kind: Kind,
+        regs: &[Reg],
+    ) -> Result<ObjNo, CreateError>
+        requires { length objects.old.objects < 2 ^ 32 - 1 }
+        ensures created { IfOk result (λ o. (o.0 ≡ length objects.old.objects) × (live objects.old.counts < objects.old.limit) × (objects.new ≡ with_created kind objects.old) × (self.new ≡ bind regs.now (Val.Object o ∷ []) self.old)) }
+        ensures refused { IfErr result (λ why. CreateRefusal why objects.old × (objects.new ≡ objects.old) × (self.new ≡ self.old)) }
+    {
+        if reserve_to(&mut self.values, room_of(regs)).is_err() {
+            return Err(CreateError::OutOfMemory);
+        }
+        match objects.create(kind) {
+            Ok(o) => {
+                put_all(&mut self.values, regs, &[Val::Object(o)]);
+                Ok(o)
+            }
+            Err(refusal) => Err(refusal),
+        }
+    }
+
+    /// Adds an element to a group and gives the number of those before it to these registers, or does neither.
+    pub(crate) fn bind_added(
+        &mut self,
+        objects: &mut Objects,
+        element: ObjNo,
+        group: ObjNo,
+        woken: &mut WokenList,
+        regs: &[Reg],
+    ) -> Result<u64, AddError>
+        requires element { IsThere objects.old.counts element }
+        requires single { is_group (object_at objects.old.objects element).kind ≡ false }
+        requires group { IsThere objects.old.counts group }
+        requires grouped { is_group (object_at objects.old.objects group).kind ≡ true }
+        requires count { count_at objects.old.counts group.0 < 2 ^ 64 - 1 }
+        requires woken { length (added element group objects.old.objects).tasks ≤ woken.old.room }
+        ensures added { IfOk result (λ rank. (rank ≡ (object_at objects.old.objects group).members.added) × (takes_more (object_at objects.old.objects group) ≡ true) × (objects.new ≡ with_element element group objects.old) × (woken.new ≡ grown (added element group objects.old.objects).tasks woken.old) × (self.new ≡ bind regs.now (Val.Number rank ∷ []) self.old)) }
+        ensures refused { IfErr result (λ why. AddRefusal why (object_at objects.old.objects group) × (objects.new ≡ objects.old) × (woken.new ≡ woken.old) × (self.new ≡ self.old)) }
+    {
+        if reserve_to(&mut self.values, room_of(regs)).is_err() {
+            return Err(AddError::OutOfMemory);
+        }
+        match objects.add_to_group(element, group, woken) {
+            Ok(rank) => {
+                put_all(&mut self.values, regs, &[Val::Number(rank)]);
+                Ok(rank)
+            }
+            Err(refusal) => Err(refusal),
+        }
     }
 
     pub(crate) fn copy(&self, alloc: Global) -> Result<Registers, AllocError>

@@ -1,14 +1,19 @@
 //! What shared steps see of a stack, and do to it.
-ghost use Rattle.std.specs.Prelude.{◌≡◌, ◌<◌, ◌+◌, ◌^◌, ◌↔◌, ◌∷◌, [], None, Some, true, false, IsTrue, IsSome, IfOk, OnOk, OnErr, OnSome, MatchOption};
+ghost use Rattle.std.specs.Prelude.{◌≡◌, ◌<◌, ◌≤◌, ◌+◌, ◌-◌, ◌^◌, ◌↔◌, ◌∷◌, [], length, None, Some, true, false, IsTrue, IsSome, IfOk, IfErr, OnOk, OnErr, OnSome, MatchOption};
 ghost use Rattle.task_stack.specs.Registers.{value, number};
 ghost use Rattle.task_stack.specs.Frames.{copied_stack};
 ghost use Rattle.task_stack.specs.Local.{operands};
-ghost use Rattle.task_stack.specs.Shared.{next_of, moved, passed, kept, resumed, becomes};
+ghost use Rattle.task_stack.specs.Shared.{next_of, moved, passed, kept, resumed, becomes, CreateRefusal, AddRefusal};
+ghost use Rattle.async_objects.specs.Objects.{object_at, is_group, takes_more, added};
+ghost use Rattle.async_objects.specs.Counts.{count_at, live, IsThere};
+ghost use Rattle.async_objects.specs.Reserved.{grown};
+ghost use Rattle.async_objects.specs.Tables.{with_created, with_element};
 
 use crate::frames::Saved;
 use crate::local::standing;
 use crate::stack::Stack;
-use async_objects::Val;
+use async_objects::{AddError, CreateError, Kind, Objects, Val, WokenList};
+use ir_forms::ObjNo;
 use low_forms::{Instr, LowFunc, LowModule, Reg};
 use std::alloc::{AllocError, Global};
 use std::mem;
@@ -73,6 +78,69 @@ impl Stack {
         ensures err { OnErr result (self.new ≡ self.old) }
     {
         self.top.go(regs, None, vals)
+    }
+
+    /// Makes an object, and goes on behind the instruction with the object in these registers.
+    ///
+    /// # Errors
+    ///
+    /// Where as many objects are there as may be, and where memory runs out. Then nothing has changed.
+    pub fn give_created(
+        &mut self,
+        objects: &mut Objects,
+        kind: Kind,
+        regs: &[Reg],
+    ) -> Result<ObjNo, CreateError>
+        requires place { self.old.top.current.place.at + 2 < 2 ^ 64 }
+        requires made { length objects.old.objects < 2 ^ 32 - 1 }
+        ensures created { IfOk result (λ o. (o.0 ≡ length objects.old.objects) × (live objects.old.counts < objects.old.limit) × (objects.new ≡ with_created kind objects.old) × (self.new ≡ moved regs.now (Val.Object o ∷ []) self.old)) }
+        ensures refused { IfErr result (λ why. CreateRefusal why objects.old × (objects.new ≡ objects.old) × (self.new ≡ self.old)) }
+    {
+        match self.top.current.regs.bind_created(objects, kind, regs) {
+            Ok(o) => {
+                self.top.pass();
+                Ok(o)
+            }
+            Err(refusal) => Err(refusal),
+        }
+    }
+
+    /// Adds an element to a group, and goes on behind the instruction with the number of elements before it in these
+    /// registers.
+    ///
+    /// # Errors
+    ///
+    /// Where the group has as many elements as its size, and where memory runs out. Then nothing has changed.
+    pub fn give_added(
+        &mut self,
+        objects: &mut Objects,
+        element: ObjNo,
+        group: ObjNo,
+        woken: &mut WokenList,
+        regs: &[Reg],
+    ) -> Result<u64, AddError>
+        requires place { self.old.top.current.place.at + 2 < 2 ^ 64 }
+        requires element { IsThere objects.old.counts element }
+        requires single { is_group (object_at objects.old.objects element).kind ≡ false }
+        requires group { IsThere objects.old.counts group }
+        requires grouped { is_group (object_at objects.old.objects group).kind ≡ true }
+        requires count { count_at objects.old.counts group.0 < 2 ^ 64 - 1 }
+        requires woken { length (added element group objects.old.objects).tasks ≤ woken.old.room }
+        ensures added { IfOk result (λ rank. (rank ≡ (object_at objects.old.objects group).members.added) × (takes_more (object_at objects.old.objects group) ≡ true) × (objects.new ≡ with_element element group objects.old) × (woken.new ≡ grown (added element group objects.old.objects).tasks woken.old) × (self.new ≡ moved regs.now (Val.Number rank ∷ []) self.old)) }
+        ensures refused { IfErr result (λ why. AddRefusal why (object_at objects.old.objects group) × (objects.new ≡ objects.old) × (woken.new ≡ woken.old) × (self.new ≡ self.old)) }
+    {
+        match self
+            .top
+            .current
+            .regs
+            .bind_added(objects, element, group, woken, regs)
+        {
+            Ok(rank) => {
+                self.top.pass();
+                Ok(rank)
+            }
+            Err(refusal) => Err(refusal),
+        }
     }
 
     /// The working frame goes on behind its instruction.
