@@ -1,1 +1,15 @@
 pub mod Worked
+pub mod Live
+pub mod Steps
+pub mod CountLemmas
+pub mod StartLemmas
+pub mod CellLemmas
+pub mod TakeLemmas
+pub mod RowLemmas
+pub mod ObjectRows
+pub mod SetBounds
+pub mod SetRows
+pub mod CellRows
+pub mod EndRows
+pub mod Products
+pub mod Dispatch

@@ -4,5 +4,10 @@ pub mod Shared
 pub mod Plain
 pub mod Core
 pub mod Runs
+pub mod Tasks
+pub mod Cells
+pub mod Running
+pub mod Parts
+pub mod Counting
 pub mod High
 pub mod Worked

@@ -20,7 +20,8 @@ use Rattle.task_stack.specs.Shared.{next_of}
 use Rattle.step_core.specs.declared.rows.SharedRow.{SharedRow}
 use Rattle.step_core.specs.declared.rows.SharedRow.TheVariants as row
 use Rattle.step_core.specs.Rows.{shared_row}
-use Rattle.step_core.specs.State.{Task, Plain, task_at}
+use Rattle.step_core.specs.declared.tasks.Task.{Task}
+use Rattle.step_core.specs.State.{Plain, task_at}
 use Rattle.step_core.specs.Shared.{Took, Stuck, Idle, Nothing, goes_on, kind_of, shared_step}
 
 -- ---- the step

@@ -9,7 +9,8 @@ use Rattle.task_stack.specs.declared.frames.Place.{Place}
 use Rattle.task_stack.specs.Local as local
 use Rattle.task_stack.specs.Local.{Local, free_step}
 use Rattle.step_core.specs.declared.ends.Entry.{Entry}
-use Rattle.step_core.specs.State.{Task, task_at, live_tasks}
+use Rattle.step_core.specs.declared.tasks.Task.{Task}
+use Rattle.step_core.specs.State.{task_at, live_tasks}
 use Rattle.step_core.specs.Shared.{Act, Took, Takes}
 use Rattle.step_core.specs.Core.{Core, core_step, start}
 

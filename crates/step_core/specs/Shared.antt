@@ -29,7 +29,9 @@ use Rattle.step_core.specs.declared.limits.Limit.{Limit}
 use Rattle.step_core.specs.declared.limits.Limit.TheVariants as limit
 use Rattle.step_core.specs.declared.rows.SharedRow.{SharedRow}
 use Rattle.step_core.specs.declared.rows.SharedRow.TheVariants as row
-use Rattle.step_core.specs.State.{Plain, RootEnd, Returned, FailedAt, with_task, with_objects, with_buffers, counted, ready, woken, cells_of, buffer_val}
+use Rattle.step_core.specs.declared.ends.RootEnd.{RootEnd}
+use Rattle.step_core.specs.declared.ends.RootEnd.TheVariants.{Returned, FailedAt}
+use Rattle.step_core.specs.State.{Plain, with_task, with_objects, with_buffers, counted, ready, woken, cells_of, buffer_val}
 
 -- what a step does that others can see, by numbers
 pub data Act : Type 0 where

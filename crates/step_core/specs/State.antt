@@ -4,8 +4,6 @@ use Rattle.ir_forms.specs.declared.args.ArgValue.{ArgValue}
 use Rattle.ir_forms.specs.declared.args.ArgValue.TheVariants as arg
 use Rattle.ir_forms.specs.declared.runs.Buffer.{Buffer}
 use Rattle.ir_forms.specs.declared.runs.FuncNo.{FuncNo}
-use Rattle.ir_forms.specs.declared.runs.ObjNo.{ObjNo}
-use Rattle.ir_forms.specs.declared.runs.Out.{Out}
 use Rattle.ir_forms.specs.declared.runs.TaskNo.{TaskNo}
 use Rattle.ir_forms.specs.declared.types.OutTy.{OutTy}
 use Rattle.ir_forms.specs.declared.types.OutTy.TheVariants as out
@@ -23,22 +21,10 @@ use Rattle.task_stack.specs.Frames.{Stack, root_stack}
 use Rattle.step_core.specs.declared.ends.End.{End}
 use Rattle.step_core.specs.declared.ends.End.TheVariants as end
 use Rattle.step_core.specs.declared.ends.Counts.{Counts}
-
--- a task, ready or parked on an object
-pub record Task : Type 0 where
-  pub stack : Stack
-  pub parked : Option ObjNo
-
--- what the root's last frame gave
-pub data RootEnd : Type 0 where
-  Returned : (results : List Out) → RootEnd
-  FailedAt : (op : ℕ) → RootEnd
-
--- the buffer of a parameter, and the type of its cells
-pub record ArgBuffer : Type 0 where
-  pub argument : ℕ
-  pub buffer : ℕ
-  pub cell : OutTy
+use Rattle.step_core.specs.declared.ends.RootEnd.{RootEnd}
+use Rattle.step_core.specs.declared.ends.RootEnd.TheVariants.{Returned, FailedAt}
+use Rattle.step_core.specs.declared.cells.ArgBuffer.{ArgBuffer}
+use Rattle.step_core.specs.declared.tasks.Task.{Task}
 
 pub record Plain : Type 0 where
   -- in the order of launching, the root first; one that has ended is None

@@ -16,6 +16,13 @@ pub enum End {
     },
 }
 
+/// What the root's last frame gave: results, or the number of the operation that failed.
+#[derive(PartialEq, Drop)]
+pub enum RootEnd {
+    Returned { results: Items<Out> },
+    FailedAt { op: u32 },
+}
+
 /// How many tasks were launched, objects made and steps taken so far. The root isn't counted.
 #[derive(Clone, Copy, PartialEq, Eq)]
 pub struct Counts {
