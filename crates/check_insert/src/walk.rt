@@ -6,9 +6,8 @@ ghost use Rattle.check_insert.specs.Shape.{checked_op, checked_region, checked_f
 
 use crate::free::first_free;
 use crate::guarded::insertion;
-use ir_forms::{Func, Module, Op, Region};
+use ir_forms::{Func, Module, Op, Region, copy_op, copy_params, copy_types};
 use lists::Items;
-use made_ops::{copy_op, copy_params, copy_types};
 use std::alloc::{AllocError, Global};
 
 /// The operations, each behind its insertion, and the next free number.

@@ -6,10 +6,9 @@ ghost use Rattle.coro_lower.specs.Shape as shape;
 
 use crate::plan::Plan;
 use crate::registers::{object_types, reg_types};
-use ir_forms::Ty;
+use ir_forms::{Ty, copy_types};
 use lists::Items;
 use low_forms::{Block, LowFunc, LowModule};
-use made_ops::copy_types;
 use register_numbers::renumber;
 use std::alloc::{AllocError, Global};
 

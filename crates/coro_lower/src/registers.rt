@@ -3,10 +3,9 @@ ghost use Rattle.std.specs.Prelude.{◌≡◌, ◌++◌, map, IfOk, OnOk};
 ghost use Rattle.ir_forms.specs.declared.types.Ty.TheVariants as ty;
 ghost use Rattle.coro_lower.specs.Registers as regs;
 
-use ir_forms::{Ty, ValTy, Width};
+use ir_forms::{Ty, ValTy, Width, copy_memref, copy_types};
 use lists::Items;
 use low_forms::{Block, LowFunc};
-use made_ops::{copy_memref, copy_types};
 use std::alloc::{AllocError, Global};
 
 fn value_type(alloc: Global, ty: &Ty) -> Result<Ty, AllocError>

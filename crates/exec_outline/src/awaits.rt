@@ -3,9 +3,8 @@ ghost use Rattle.std.specs.Prelude.{◌≡◌, ◌∷◌, [], map, IfOk};
 ghost use Rattle.ir_forms.specs.declared.ops.Op.{roll-Op};
 ghost use Rattle.exec_outline.specs.Shape.{await, awaits_each, awaits_for, numbered, tokens};
 
-use ir_forms::{Attr, Op, OpKind, Ty, ValueNo};
+use ir_forms::{Attr, Op, OpKind, Ty, ValueNo, copy_type};
 use lists::Items;
-use made_ops::copy_type;
 use std::alloc::{AllocError, Global};
 
 /// So many tokens.

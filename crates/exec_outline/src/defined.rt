@@ -2,9 +2,8 @@
 ghost use Rattle.std.specs.Prelude.{◌≡◌, ◌++◌, OnOk};
 ghost use Rattle.exec_outline.specs.Shape.{typed, values_in, values_inside, values_of};
 
-use ir_forms::{Func, Op, Region, Ty, ValueNo};
+use ir_forms::{Func, Op, Region, Ty, ValueNo, copy_type};
 use lists::Items;
-use made_ops::copy_type;
 use std::alloc::{AllocError, Global};
 
 /// Puts the values of a function with their types behind these.

@@ -7,9 +7,8 @@ ghost use Rattle.exec_outline.specs.Shape.{as_values, awaits_each, awaits_for, d
 
 use crate::awaits::{awaits_each, awaits_for, numbered, tokens};
 use crate::values::Values;
-use ir_forms::{Attr, Func, Op, Region, Ty, ValTy, ValueNo};
+use ir_forms::{Attr, Func, Op, Region, Ty, ValTy, ValueNo, copy_memref, copy_type, copy_types};
 use lists::Items;
-use made_ops::{copy_memref, copy_type, copy_types};
 use std::alloc::{AllocError, Global};
 
 fn dependency_count(groups: &[u32]) -> u32

@@ -5,9 +5,8 @@ ghost use Rattle.exec_outline.specs.Shape.{first_free, type_in, typed_in, values
 
 use crate::defined::push_values;
 use indexmap::IndexMap;
-use ir_forms::{Func, Ty, ValueNo};
+use ir_forms::{Func, Ty, ValueNo, copy_type};
 use lists::Items;
-use made_ops::copy_type;
 use std::alloc::{AllocError, Global};
 use std::marker::Model;
 

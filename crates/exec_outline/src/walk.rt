@@ -9,9 +9,8 @@ use crate::captures::captures;
 use crate::names::Taken;
 use crate::task::{launch, task};
 use crate::values::Values;
-use ir_forms::{Func, Module, Op, OpKind, Region};
+use ir_forms::{Func, Module, Op, OpKind, Region, copy_op, copy_params, copy_types};
 use lists::Items;
-use made_ops::{copy_op, copy_params, copy_types};
 use std::alloc::{AllocError, Global};
 
 /// The number of the next task behind these.

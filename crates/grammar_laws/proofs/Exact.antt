@@ -16,7 +16,7 @@ use Rattle.module_grammar.specs.declared.sought.Sought.TheVariants as sought
 use Rattle.module_grammar.specs.declared.faults.TextLimits.{TextLimits}
 use Rattle.module_grammar.specs.declared.faults.GrammarFault.{GrammarFault}
 use Rattle.module_grammar.specs.declared.faults.GrammarFault.TheVariants as fault
-use Rattle.module_grammar.specs.declared.state.Tok.{Tok}
+use Rattle.module_grammar.specs.declared.state.TextToken.{TextToken}
 use Rattle.module_grammar.specs.declared.state.State.{State}
 use Rattle.module_grammar.specs.Engine.{Place, Begins, first_then, good_then, line_at, step}
 use Rattle.module_grammar.specs.State.{at_start, does}
@@ -37,10 +37,10 @@ use Rattle.grammar_laws.proofs.TokenClasses.{op-class, type-class}
 
 -- ---- what a token makes of the state, limits count no less
 
-word-grew : (s : State) (t : Tok) → Grew s (record s { last = t })
+word-grew : (s : State) (t : TextToken) → Grew s (record s { last = t })
 word-grew s t = let h = stays s in record { begun = h.begun; functions = h.functions; deepest = h.deepest; counted = h.counted }
 
-step-grew : (level : Level) (k : List Symbol) (s : State) (t : Tok) (p : Place State) → step (grammar level) k s t ≡ Some p → Grew s p.state
+step-grew : (level : Level) (k : List Symbol) (s : State) (t : TextToken) (p : Place State) → step (grammar level) k s t ≡ Some p → Grew s p.state
 step-grew level [] s t p e = absurd cc
 step-grew level (symbol.Word c ∷ k) s t p e =
     by_test ((grammar level).accepts c s t)
@@ -65,7 +65,7 @@ settle-grew (symbol.Do a ∷ k) s = grew-both s (does a s) (settled k (does a s)
 settle-grew (symbol.Word c ∷ k) s = stays s
 settle-grew (symbol.Rule r ∷ k) s = stays s
 
-reached-grew : (level : Level) (front : List Tok) (k : List Symbol) (s : State) (q : Place State) → reached level k s front ≡ Some q → Grew s q.state
+reached-grew : (level : Level) (front : List TextToken) (k : List Symbol) (s : State) (q : Place State) → reached level k s front ≡ Some q → Grew s q.state
 reached-grew level [] k s q e =
     let same : record { left = k; state = s } ≡ q = cc in subst (λ (x : Place State). Grew s x.state) same (stays s)
 reached-grew level (u ∷ front) k s q e =
@@ -77,7 +77,7 @@ reached-grew level (u ∷ front) k s q e =
 
 -- ---- tokens within the limits are walked to the place that they lead to
 
-walks-there : (limits : TextLimits) (level : Level) (front : List Tok) (k : List Symbol) (s : State) (q : Place State) (ts : List Tok)
+walks-there : (limits : TextLimits) (level : Level) (front : List TextToken) (k : List Symbol) (s : State) (q : Place State) (ts : List TextToken)
     → reached level k s front ≡ Some q → IsWithin limits q.state
     → walk limits level k s (front ++ ts) ≡ walk limits level q.left q.state ts
 walks-there limits level [] k s q ts e h =
@@ -93,14 +93,14 @@ walks-there limits level (u ∷ front) k s q ts e h =
     (λ f. reached-none level k s u front q f e)
 
 -- a token with which a text begins is taken at the place that those before it lead to
-taken-here : (level : Level) (k : List Symbol) (s : State) (t : Tok) → Begins (grammar level) k s (t ∷ [])
+taken-here : (level : Level) (k : List Symbol) (s : State) (t : TextToken) → Begins (grammar level) k s (t ∷ [])
     → (p : Place State) × (step (grammar level) k s t ≡ Some p)
 taken-here level k s t b =
     by_option (step (grammar level) k s t)
     (λ p f. (p, f))
     (λ f. let a : Err (t ∷ b.0) ≡ Ok b.1 = sym (run-none (grammar level) k s t b.0 f) ∙ leads-run (grammar level) k s (t ∷ b.0) b.1 b.2 in absurd cc)
 
-pub taken-there : (level : Level) (front : List Tok) (k : List Symbol) (s : State) (q : Place State) (t : Tok)
+pub taken-there : (level : Level) (front : List TextToken) (k : List Symbol) (s : State) (q : Place State) (t : TextToken)
     → reached level k s front ≡ Some q → Begins (grammar level) k s (front ++ t ∷ [])
     → (p : Place State) × (step (grammar level) q.left q.state t ≡ Some p)
 taken-there level [] k s q t e b =
@@ -112,7 +112,7 @@ taken-there level (u ∷ front) k s q t e b =
     (begins-from level k s u (front ++ t ∷ []) p f b))
     (λ f. reached-none level k s u front q f e)
 
-pub refused-there : (level : Level) (front : List Tok) (q : Place State) (t : Tok) → reached level whole at_start front ≡ Some q
+pub refused-there : (level : Level) (front : List TextToken) (q : Place State) (t : TextToken) → reached level whole at_start front ≡ Some q
     → (Begins (grammar level) whole at_start (front ++ t ∷ []) → ⊥) → step (grammar level) q.left q.state t ≡ None
 refused-there level front q t e h =
     by_option (step (grammar level) q.left q.state t)
@@ -131,7 +131,7 @@ settles (symbol.Do a ∷ k) s = settles k (does a s)
 settles (symbol.Word c ∷ k) s = refl
 settles (symbol.Rule r ∷ k) s = refl
 
-pub reached-still : (level : Level) (front : List Tok) (k : List Symbol) (s : State) (q : Place State) → begins_still k ≡ true
+pub reached-still : (level : Level) (front : List TextToken) (k : List Symbol) (s : State) (q : Place State) → begins_still k ≡ true
     → reached level k s front ≡ Some q → begins_still q.left ≡ true
 reached-still level [] k s q h e =
     let same : record { left = k; state = s } ≡ q = cc in subst (λ (x : Place State). begins_still x.left ≡ true) same h
@@ -364,10 +364,10 @@ second-of-four true b c d e = first-of-three b c d e
 second-of-four false b c d e = refl
 
 -- where the token is no number and no names are open, no name held or open passes a limit
-no-held : (level : Level) (k : List Symbol) (s : State) (t : Tok) → is_number_kind t.kind ≡ false → counts_held level k s t ≡ false
+no-held : (level : Level) (k : List Symbol) (s : State) (t : TextToken) → is_number_kind t.kind ≡ false → counts_held level k s t ≡ false
 no-held level k s t n = second-of-four (fits_first level sought.HeldNumber k) (is_number_kind t.kind) _ _ n
 
-no-open : (limits : TextLimits) (k : List Symbol) (s : State) (t : Tok) → is_number_kind t.kind ≡ false → names_open k ≡ false
+no-open : (limits : TextLimits) (k : List Symbol) (s : State) (t : TextToken) → is_number_kind t.kind ≡ false → names_open k ≡ false
     → open_name_past limits k s t ≡ None
 no-open limits k s t n o =
     let e : results_open k s ≡ [] = rw o refl in
@@ -375,7 +375,7 @@ no-open limits k s t n o =
     let g : counts_values k && is_number_kind t.kind ≡ false = and-false (counts_values k) (is_number_kind t.kind) n in
     rw f (rw g refl)
 
-pub no-entry : (level : Level) (k : List Symbol) (s : State) (t : Tok) → fits_first level sought.EntryEnd k && (is_byte 44 t.kind || is_byte 125 t.kind) ≡ false
+pub no-entry : (level : Level) (k : List Symbol) (s : State) (t : TextToken) → fits_first level sought.EntryEnd k && (is_byte 44 t.kind || is_byte 125 t.kind) ≡ false
     → entry_fault level k s t ≡ None
 no-entry level k s t e = rw e refl
 
@@ -386,24 +386,24 @@ told true held o e f a p q = absurd cc
 told false held (Some x) e f a p q = absurd cc
 told false held None (Some x) f a p q = absurd cc
 
-fault-told : (limits : TextLimits) (level : Level) (k : List Symbol) (s : State) (t : Tok) (ts : List Tok) → is_number_kind t.kind ≡ false
+fault-told : (limits : TextLimits) (level : Level) (k : List Symbol) (s : State) (t : TextToken) (ts : List TextToken) → is_number_kind t.kind ≡ false
     → names_open k ≡ false → fits_first level sought.EntryEnd k && (is_byte 44 t.kind || is_byte 125 t.kind) ≡ false
     → fault_there limits level k s t ts ≡ token_fault limits level k s t ts
 fault-told limits level k s t ts n o e =
     told (counts_held level k s t) (held_fault limits s t) (open_name_past limits k s t) (entry_fault level k s t) (token_fault limits level k s t ts)
     (no-held level k s t n) (no-open limits k s t n o) (no-entry level k s t e)
 
-op-told : (limits : TextLimits) (level : Level) (k : List Symbol) (s : State) (t : Tok) (ts : List Tok) → is_unknown_op level k t ≡ true
+op-told : (limits : TextLimits) (level : Level) (k : List Symbol) (s : State) (t : TextToken) (ts : List TextToken) → is_unknown_op level k t ≡ true
     → token_fault limits level k s t ts ≡ fault.UnknownOp t.at
 op-told limits level k s t ts u = rw u refl
 
-pub type-told : (limits : TextLimits) (level : Level) (k : List Symbol) (s : State) (t : Tok) (ts : List Tok) → is_unknown_op level k t ≡ false
+pub type-told : (limits : TextLimits) (level : Level) (k : List Symbol) (s : State) (t : TextToken) (ts : List TextToken) → is_unknown_op level k t ≡ false
     → is_unknown_type level k t ≡ true → token_fault limits level k s t ts ≡ fault.UnknownType t.at
 type-told limits level k s t ts n u = rw n (rw u refl)
 
 -- ---- the laws
 
-pub parsed-there : (limits : TextLimits) (level : Level) (front : List Tok) (q : Place State) (t : Tok) (rest : List Tok) (f : GrammarFault)
+pub parsed-there : (limits : TextLimits) (level : Level) (front : List TextToken) (q : Place State) (t : TextToken) (rest : List TextToken) (f : GrammarFault)
     → reached level whole at_start front ≡ Some q → IsWithin limits q.state → held_past limits q.left q.state ≡ None
     → step (grammar level) q.left q.state t ≡ None → fault_there limits level q.left q.state t rest ≡ f
     → parsed limits level (front ++ t ∷ rest) ≡ Err f
@@ -412,7 +412,7 @@ parsed-there limits level front q t rest f r h n e g =
     ap module_or (walks-there limits level front whole at_start q (t ∷ rest) r h ∙ walk-refused limits level q.left q.state t rest e)
     ∙ ap (λ (x : GrammarFault). Err x) (same ∙ g)
 
-pub unknown-op : (limits : TextLimits) (level : Level) (ts : List Tok) (at : ℕ)
+pub unknown-op : (limits : TextLimits) (level : Level) (ts : List TextToken) (at : ℕ)
     → IsUnknown limits level ts at (names_no_op level) (names_form level) → parsed limits level ts ≡ Err (fault.UnknownOp at)
 unknown-op limits level ts at u =
     let q = u.within.place in
@@ -424,7 +424,7 @@ unknown-op limits level ts at u =
     let named = and-left (is_name u.token.kind) _ u.is_wrong in
     let fits = step-sought level sought.Op u.other u.token (op-class level u.other u.token u.is_right named) q.left q.state takes.0 takes.1 refuses in
     let plain = name-is u.token.kind named in
-    subst (λ (x : List Tok). parsed limits level x ≡ Err (fault.UnknownOp at)) (sym u.parts)
+    subst (λ (x : List TextToken). parsed limits level x ≡ Err (fault.UnknownOp at)) (sym u.parts)
     (parsed-there limits level u.front q u.token u.rest (fault.UnknownOp at) r u.within.within u.within.held refuses
     (fault-told limits level q.left q.state u.token u.rest plain.0 (op-names level q.left good still fits)
     (and-false (fits_first level sought.EntryEnd q.left) _ plain.1)
@@ -441,7 +441,7 @@ finds-unknown-type limits level ts at u number x x_named x_refused =
     let takes = taken-there level u.front whole at_start q u.other r (begins-text level (u.front ++ u.other ∷ []) u.goes_on) in
     let x_refuses = refused-there level u.front q x r (λ b. x_refused (text-begins level (u.front ++ x ∷ []) b)) in
     let fits = step-sought level sought.Type u.other x (type-class u.other x u.is_right x_named) q.left q.state takes.0 takes.1 x_refuses in
-    subst (λ (y : List Tok). parsed limits level y ≡ Err (fault.UnknownType at)) (sym u.parts)
+    subst (λ (y : List TextToken). parsed limits level y ≡ Err (fault.UnknownType at)) (sym u.parts)
     (parsed-there limits level u.front q u.token u.rest (fault.UnknownType at) r u.within.within u.within.held refuses
     (fault-told limits level q.left q.state u.token u.rest number (type-names level q.left good still fits)
     (and-right-false (fits_first level sought.EntryEnd q.left) _ (type-entries level q.left good fits))

@@ -6,7 +6,7 @@ use Rattle.module_grammar.specs.declared.symbols.Rule.{Rule}
 use Rattle.module_grammar.specs.declared.symbols.Symbol.{Symbol}
 use Rattle.module_grammar.specs.declared.symbols.Symbol.TheVariants as symbol
 use Rattle.module_grammar.specs.declared.sought.Sought.{Sought}
-use Rattle.module_grammar.specs.declared.state.Tok.{Tok}
+use Rattle.module_grammar.specs.declared.state.TextToken.{TextToken}
 use Rattle.module_grammar.specs.declared.state.State.{State}
 use Rattle.module_grammar.specs.Engine.{Line, Place, first_line, line_at, step}
 use Rattle.module_grammar.specs.State.{does}
@@ -28,7 +28,7 @@ only true h = refl
 only false h = absurd cc
 
 -- a word takes a token, or refuses it
-word-taken : (level : Level) (c : Class) (k : List Symbol) (s : State) (t : Tok) (p : Place State)
+word-taken : (level : Level) (c : Class) (k : List Symbol) (s : State) (t : TextToken) (p : Place State)
     → step (grammar level) (symbol.Word c ∷ k) s t ≡ Some p → is_of c t && allows c s t ≡ true
 word-taken level c k s t p e =
     by_test (is_of c t && allows c s t)
@@ -36,7 +36,7 @@ word-taken level c k s t p e =
     (λ n. let a : None ≡ Some p =
     subst (λ b. cond {A = Option (Place State)} b (Some (record { left = k; state = (grammar level).reads c t s })) None ≡ Some p) n e in absurd cc)
 
-word-refused : (level : Level) (c : Class) (k : List Symbol) (s : State) (t : Tok)
+word-refused : (level : Level) (c : Class) (k : List Symbol) (s : State) (t : TextToken)
     → step (grammar level) (symbol.Word c ∷ k) s t ≡ None → is_of c t && allows c s t ≡ false
 word-refused level c k s t e =
     by_test (is_of c t && allows c s t)
@@ -45,7 +45,7 @@ word-refused level c k s t e =
     (λ n. n)
 
 -- a rule of which a token begins no line
-line-refused : (level : Level) (r : Rule) (k : List Symbol) (s : State) (t : Tok)
+line-refused : (level : Level) (r : Rule) (k : List Symbol) (s : State) (t : TextToken)
     → step (grammar level) (symbol.Rule r ∷ k) s t ≡ None → line_at (grammar level) r s t ≡ None
 line-refused level r k s t e =
     by_option (line_at (grammar level) r s t)
@@ -54,7 +54,7 @@ line-refused level r k s t e =
     (λ f. f)
 
 -- Each class that has the right token and not the wrong one is sought.
-module _ (level : Level) (w : Sought) (right wrong : Tok)
+module _ (level : Level) (w : Sought) (right wrong : TextToken)
     (known : (c : Class) (s : State) → is_of c right && allows c s right ≡ true → is_of c wrong && allows c s wrong ≡ false → seeks w c ≡ true) where
   line-sought : (ls : List Line) (s : State) (l : Line) → first_line (grammar level) ls s right ≡ Some l
       → first_line (grammar level) ls s wrong ≡ None → any_first (seeks w) ls ≡ true

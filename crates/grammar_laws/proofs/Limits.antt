@@ -8,7 +8,7 @@ use Rattle.module_grammar.specs.declared.faults.Limited.{Limited}
 use Rattle.module_grammar.specs.declared.faults.Limited.TheVariants as limited
 use Rattle.module_grammar.specs.declared.faults.GrammarFault.{GrammarFault}
 use Rattle.module_grammar.specs.declared.faults.GrammarFault.TheVariants as fault
-use Rattle.module_grammar.specs.declared.state.Tok.{Tok}
+use Rattle.module_grammar.specs.declared.state.TextToken.{TextToken}
 use Rattle.module_grammar.specs.declared.state.State.{State}
 use Rattle.module_grammar.specs.Engine.{Place, Leads, Begins, step, close, closed}
 use Rattle.module_grammar.specs.State.{at_start}
@@ -24,7 +24,7 @@ use Rattle.grammar_laws.proofs.Unknown.{reached-some, reached-none}
 
 -- ---- texts go on from the place that tokens lead to
 
-leads-there : (level : Level) (front : List Tok) (k : List Symbol) (s : State) (q : Place State) (ts : List Tok) (s' : State)
+leads-there : (level : Level) (front : List TextToken) (k : List Symbol) (s : State) (q : Place State) (ts : List TextToken) (s' : State)
     → reached level k s front ≡ Some q → Leads (grammar level) k s (front ++ ts) s' → Leads (grammar level) q.left q.state ts s'
 leads-there level [] k s q ts s' e d =
     let same : record { left = k; state = s } ≡ q = cc in
@@ -37,7 +37,7 @@ leads-there level (u ∷ front) k s q ts s' e d =
     (sym (settle-run level p.left p.state (front ++ ts)) ∙ leads-run (grammar level) p.left p.state (front ++ ts) s' r)))
     (λ f. reached-none level k s u front q f e)
 
-reached-more : (level : Level) (front : List Tok) (k : List Symbol) (s : State) (t : Tok) (p q : Place State)
+reached-more : (level : Level) (front : List TextToken) (k : List Symbol) (s : State) (t : TextToken) (p q : Place State)
     → reached level k s front ≡ Some p → step (grammar level) p.left p.state t ≡ Some q
     → reached level k s (front ++ t ∷ []) ≡ Some (settled q.left q.state)
 reached-more level [] k s t p q e h =
@@ -59,10 +59,10 @@ number-grew limited.Depth s s' g = g.deepest
 number-grew limited.Values s s' g = g.counted
 
 -- what a limit that is passed tells
-abbrev IsTold : TextLimits → State → State → Tok → Limited → ℕ → Type 0
+abbrev IsTold : TextLimits → State → State → TextToken → Limited → ℕ → Type 0
 IsTold limits s now t which at = (at ≡ place_of_limit limits which s t) × (most which limits < number which now)
 
-told : (limits : TextLimits) (s now : State) (t : Tok) (w : Limited) (which : Limited) (at : ℕ) (rest : Option GrammarFault)
+told : (limits : TextLimits) (s now : State) (t : TextToken) (w : Limited) (which : Limited) (at : ℕ) (rest : Option GrammarFault)
     → cond (nat_lt (most w limits) (number w now)) (Some (fault.Limit w (place_of_limit limits w s t))) rest ≡ Some (fault.Limit which at)
     → (rest ≡ Some (fault.Limit which at) → IsTold limits s now t which at) → IsTold limits s now t which at
 told limits s now t w which at rest e later = by (nat_lt (most w limits) (number w now)) refl e
@@ -76,7 +76,7 @@ told limits s now t w which at rest e later = by (nat_lt (most w limits) (number
         (sym there, ltb-true (most w limits) (number w now) f)
     by false f g = later g
 
-limit-told : (limits : TextLimits) (s now : State) (t : Tok) (which : Limited) (at : ℕ)
+limit-told : (limits : TextLimits) (s now : State) (t : TextToken) (which : Limited) (at : ℕ)
     → limit_passed limits s now t ≡ Some (fault.Limit which at) → IsTold limits s now t which at
 limit-told limits s now t which at e =
     told limits s now t limited.Operations which at _ e (λ f.
@@ -86,7 +86,7 @@ limit-told limits s now t which at e =
 
 -- ---- the causes
 
-have-more : (limits : TextLimits) (level : Level) (which : Limited) (front : List Tok) (q : Place State)
+have-more : (limits : TextLimits) (level : Level) (which : Limited) (front : List TextToken) (q : Place State)
     → reached level whole at_start front ≡ Some q → most which limits < number which q.state → HaveMore level which front (most which limits)
 have-more limits level which front q e h more s d =
     let g = number-grew which q.state s (leads-grew level q.left q.state more s (leads-there level front whole at_start q more s e d)) in
@@ -95,11 +95,11 @@ have-more limits level which front q e h more s d =
 ends-so : (level : Level) (q : Place State) (last s : State) → close (grammar level) q.left q.state ≡ Some last
     → Leads (grammar level) q.left q.state [] s → last ≡ s
 ends-so level q last s e d =
-    let a : closed {T = Tok} (close (grammar level) q.left q.state) ≡ Ok s = leads-run (grammar level) q.left q.state [] s d in
-    let b : closed {T = Tok} (Some last) ≡ Ok s = subst (λ (o : Option State). closed {T = Tok} o ≡ Ok s) e a in
+    let a : closed {T = TextToken} (close (grammar level) q.left q.state) ≡ Ok s = leads-run (grammar level) q.left q.state [] s d in
+    let b : closed {T = TextToken} (Some last) ≡ Ok s = subst (λ (o : Option State). closed {T = TextToken} o ≡ Ok s) e a in
     let c : last ≡ s = cc in c
 
-cause-passed : (limits : TextLimits) (level : Level) (front : List Tok) (place : Place State) (rest : List Tok) (f : GrammarFault) (which : Limited) (at : ℕ)
+cause-passed : (limits : TextLimits) (level : Level) (front : List TextToken) (place : Place State) (rest : List TextToken) (f : GrammarFault) (which : Limited) (at : ℕ)
     → reached level whole at_start front ≡ Some place → IsWithin limits place.state → Begins (grammar level) whole at_start front
     → IsCause limits level whole at_start front place rest f → f ≡ fault.Limit which at → IsPassed limits level (front ++ rest) which at
 cause-passed limits level front place _ _ which at r i b (IsCause.refused t rest refuses n) e =
@@ -120,5 +120,5 @@ cause-passed limits level front place _ _ which at r i b (IsCause.passed_last la
 pub passes-limit : PassesLimit
 passes-limit limits level ts which at e =
     let h = names-first-fault limits level ts (fault.Limit which at) e in
-    subst (λ (x : List Tok). IsPassed limits level x which at) (sym h.parts)
+    subst (λ (x : List TextToken). IsPassed limits level x which at) (sym h.parts)
     (cause-passed limits level h.front h.place h.rest (fault.Limit which at) which at h.leads h.within h.fits h.cause refl)

@@ -14,7 +14,7 @@ use Rattle.module_grammar.specs.declared.symbols.Class.TheVariants as class
 use Rattle.module_grammar.specs.declared.symbols.Keyword.{Keyword}
 use Rattle.module_grammar.specs.declared.symbols.Keyword.TheVariants as key
 use Rattle.module_grammar.specs.declared.sought.Sought.TheVariants as sought
-use Rattle.module_grammar.specs.declared.state.Tok.{Tok}
+use Rattle.module_grammar.specs.declared.state.TextToken.{TextToken}
 use Rattle.module_grammar.specs.declared.state.State.{State}
 use Rattle.module_grammar.specs.Tokens.{word_of, is_name_of, among, kind_among, widths, number_type, type_of, payload_of_type, is_memref_type, is_group_type, is_truth_type, predicates}
 use Rattle.module_grammar.specs.Rules.{kinds_at, plain_kinds, is_name, is_of, allows, is_type_kind}
@@ -25,14 +25,14 @@ use Rattle.grammar_laws.proofs.Fitting.{only}
 
 -- ---- names
 
-abbrev name_tok : List ℕ → ℕ → Bool → Tok
+abbrev name_tok : List ℕ → ℕ → Bool → TextToken
 name_tok text at joined = record { kind = kind.Name; text = text; at = at; joined = joined }
 
 name-kind : (k : TokenKind) → is_name k ≡ true → k ≡ kind.Name
 name-kind kind.Name e = refl
 name-kind _ e = absurd cc
 
-as-name : (t : Tok) → is_name t.kind ≡ true → t ≡ name_tok t.text t.at t.joined
+as-name : (t : TextToken) → is_name t.kind ≡ true → t ≡ name_tok t.text t.at t.joined
 as-name t e = ap (λ (x : TokenKind). record t { kind = x }) (name-kind t.kind e)
 
 bytes-same : (xs ys : List ℕ) → bytes_eq xs ys ≡ true → xs ≡ ys
@@ -152,15 +152,15 @@ op-class-at class.EntryWord s a i j b m n f y z = absurd cc
 op-class-at class.AnyWord s a i j b m n f y z = absurd cc
 op-class-at _ s a i j b m n f y z = absurd cc
 
-pub op-class : (level : Level) (right wrong : Tok) → names_form level right ≡ true → is_name wrong.kind ≡ true → (c : Class) (s : State)
+pub op-class : (level : Level) (right wrong : TextToken) → names_form level right ≡ true → is_name wrong.kind ≡ true → (c : Class) (s : State)
     → is_of c right && allows c s right ≡ true → is_of c wrong && allows c s wrong ≡ false → seeks sought.Op c ≡ true
 op-class level right wrong f n c s y z =
     let r = as-name right (and-left (is_name right.kind) _ f) in
     let w = as-name wrong n in
     op-class-at c s right.text right.at right.joined wrong.text wrong.at wrong.joined
     (form-kept level right.text (and-right (is_name right.kind) _ f))
-    (subst (λ (x : Tok). is_of c x && allows c s x ≡ true) r y)
-    (subst (λ (x : Tok). is_of c x && allows c s x ≡ false) w z)
+    (subst (λ (x : TextToken). is_of c x && allows c s x ≡ true) r y)
+    (subst (λ (x : TextToken). is_of c x && allows c s x ≡ false) w z)
 
 -- ---- classes of types
 
@@ -331,8 +331,8 @@ type-class-at (class.OpName p) s _ text at joined b m n e y z = absurd cc
 type-class-at class.Predicate s _ text at joined b m n e y z = absurd cc
 type-class-at c s k text at joined b m n e y z = absurd (wrong-kind k c s text at joined (type-kind k text at joined e) refl y)
 
-pub type-class : (right wrong : Tok) → begins_type right ≡ true → is_name wrong.kind ≡ true → (c : Class) (s : State)
+pub type-class : (right wrong : TextToken) → begins_type right ≡ true → is_name wrong.kind ≡ true → (c : Class) (s : State)
     → is_of c right && allows c s right ≡ true → is_of c wrong && allows c s wrong ≡ false → seeks sought.Type c ≡ true
 type-class right wrong f n c s y z =
     type-class-at c s right.kind right.text right.at right.joined wrong.text wrong.at wrong.joined f y
-    (subst (λ (x : Tok). is_of c x && allows c s x ≡ false) (as-name wrong n) z)
+    (subst (λ (x : TextToken). is_of c x && allows c s x ≡ false) (as-name wrong n) z)

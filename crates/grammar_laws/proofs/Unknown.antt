@@ -16,10 +16,10 @@ use Rattle.module_grammar.specs.declared.faults.Limited.{Limited}
 use Rattle.module_grammar.specs.declared.faults.Limited.TheVariants as limited
 use Rattle.module_grammar.specs.declared.faults.GrammarFault.{GrammarFault}
 use Rattle.module_grammar.specs.declared.faults.GrammarFault.TheVariants as fault
-use Rattle.module_grammar.specs.declared.state.Tok.{Tok}
+use Rattle.module_grammar.specs.declared.state.TextToken.{TextToken}
 use Rattle.module_grammar.specs.declared.state.State.{State}
-use Rattle.module_grammar.specs.declared.state.Entry.{Entry}
-use Rattle.module_grammar.specs.declared.state.Entry.TheVariants as entry
+use Rattle.module_grammar.specs.declared.state.DictEntry.{DictEntry}
+use Rattle.module_grammar.specs.declared.state.DictEntry.TheVariants as entry
 use Rattle.module_grammar.specs.Engine.{Place, Begins, good_then, line_at, step}
 use Rattle.module_grammar.specs.State.{at_start, does, up, with_names}
 use Rattle.module_grammar.specs.Rules.{grammar, lines, may_end, is_of, is_byte, allows}
@@ -39,32 +39,32 @@ is-some : {A : Type 0} (o : Option A) (a : A) → o ≡ Some a → is_some o ≡
 is-some o a e = ap is_some e
 
 -- a token with the property fits here
-abbrev pub Fits : Level → (Tok → Bool) → List Symbol → State → Type 0
-Fits level test k s = (t : Tok) × (test t ≡ true) × (is_some (step (grammar level) k s t) ≡ true)
+abbrev pub Fits : Level → (TextToken → Bool) → List Symbol → State → Type 0
+Fits level test k s = (t : TextToken) × (test t ≡ true) × (is_some (step (grammar level) k s t) ≡ true)
 
-pub after-line : (level : Level) (r : Rule) (k : List Symbol) (s : State) (t : Tok)
+pub after-line : (level : Level) (r : Rule) (k : List Symbol) (s : State) (t : TextToken)
     → is_some (line_at (grammar level) r s t) ≡ true → is_some (step (grammar level) (symbol.Rule r ∷ k) s t) ≡ true
 after-line level r k s t h =
     by_option (line_at (grammar level) r s t)
     (λ l e. is-some (step (grammar level) (symbol.Rule r ∷ k) s t) _ (step-line (grammar level) r k s t l e))
     (λ e. let a : false ≡ true = sym (ap is_some e) ∙ h in absurd cc)
 
-after-rule : (level : Level) (r : Rule) (k : List Symbol) (s : State) (t : Tok) → may_end r ≡ true
+after-rule : (level : Level) (r : Rule) (k : List Symbol) (s : State) (t : TextToken) → may_end r ≡ true
     → is_some (step (grammar level) k s t) ≡ true → is_some (step (grammar level) (symbol.Rule r ∷ k) s t) ≡ true
 after-rule level r k s t m h =
     by_option (line_at (grammar level) r s t)
     (λ l e. is-some (step (grammar level) (symbol.Rule r ∷ k) s t) _ (step-line (grammar level) r k s t l e))
     (λ e. ap is_some (step-nothing (grammar level) r k s t m e) ∙ h)
 
-after-word : (level : Level) (c : Class) (k : List Symbol) (s : State) (t : Tok) → is_of c t && allows c s t ≡ true
+after-word : (level : Level) (c : Class) (k : List Symbol) (s : State) (t : TextToken) → is_of c t && allows c s t ≡ true
     → is_some (step (grammar level) (symbol.Word c ∷ k) s t) ≡ true
 after-word level c k s t h = is-some (step (grammar level) (symbol.Word c ∷ k) s t) _ (step-word (grammar level) c k s t h)
 
 -- where lines and words that are sought have a token with the property, one fits where such a word fits first
-pub fits-some : (level : Level) (w : Sought) (test : Tok → Bool)
+pub fits-some : (level : Level) (w : Sought) (test : TextToken → Bool)
     → ((r : Rule) (s : State) → any_first (seeks w) (lines level r) ≡ true
-    → (t : Tok) × (test t ≡ true) × (is_some (line_at (grammar level) r s t) ≡ true))
-    → ((c : Class) (s : State) → usable c ≡ true → seeks w c ≡ true → (t : Tok) × (test t ≡ true) × (is_of c t && allows c s t ≡ true))
+    → (t : TextToken) × (test t ≡ true) × (is_some (line_at (grammar level) r s t) ≡ true))
+    → ((c : Class) (s : State) → usable c ≡ true → seeks w c ≡ true → (t : TextToken) × (test t ≡ true) × (is_of c t && allows c s t ≡ true))
     → (k : List Symbol) (s : State) → good_then (grammar level) (endings level) k class.End ≡ true
     → fits_first level w k ≡ true → Fits level test k s
 fits-some level w test in_lines in_words [] s g f = absurd cc
@@ -80,7 +80,7 @@ fits-some level w test in_lines in_words (symbol.Rule r ∷ k) s g f =
 
 -- ---- operations
 
-abbrev op_token : Tok
+abbrev op_token : TextToken
 op_token = plain_sample (class.OpName op.ArithAddi)
 
 op-line : (level : Level) (r : Rule) (s : State) → any_first (seeks sought.Op) (lines level r) ≡ true
@@ -154,21 +154,21 @@ type-fits level k s g f =
 
 -- ---- the place that tokens reach
 
-pub reached-some : (level : Level) (k : List Symbol) (s : State) (u : Tok) (front : List Tok) (p q : Place State)
+pub reached-some : (level : Level) (k : List Symbol) (s : State) (u : TextToken) (front : List TextToken) (p q : Place State)
     → step (grammar level) k s u ≡ Some p → reached level k s (u ∷ front) ≡ Some q
     → reached level (settled p.left p.state).left (settled p.left p.state).state front ≡ Some q
 reached-some level k s u front p q f e = sym (rw (f, reached) refl) ∙ e
 
-pub reached-none : {X : Type 0} (level : Level) (k : List Symbol) (s : State) (u : Tok) (front : List Tok) (q : Place State)
+pub reached-none : {X : Type 0} (level : Level) (k : List Symbol) (s : State) (u : TextToken) (front : List TextToken) (q : Place State)
     → step (grammar level) k s u ≡ None → reached level k s (u ∷ front) ≡ Some q → X
 reached-none level k s u front q f e = let a : None ≡ Some q = sym (rw (f, reached) refl) ∙ e in absurd cc
 
-step-good : (level : Level) (k : List Symbol) (s : State) (u : Tok) (p : Place State)
+step-good : (level : Level) (k : List Symbol) (s : State) (u : TextToken) (p : Place State)
     → good_then (grammar level) (endings level) k class.End ≡ true → step (grammar level) k s u ≡ Some p
     → good_then (grammar level) (endings level) (settled p.left p.state).left class.End ≡ true
 step-good level k s u p g f = settle-good level p.left p.state (step-keeps (grammar level) (endings level) (can-end level) class.End k s u p g f)
 
-pub reached-good : (level : Level) (front : List Tok) (k : List Symbol) (s : State) (q : Place State)
+pub reached-good : (level : Level) (front : List TextToken) (k : List Symbol) (s : State) (q : Place State)
     → good_then (grammar level) (endings level) k class.End ≡ true → reached level k s front ≡ Some q
     → good_then (grammar level) (endings level) q.left class.End ≡ true
 reached-good level [] k s q g e =
@@ -180,7 +180,7 @@ reached-good level (u ∷ front) k s q g e =
     (reached-some level k s u front p q f e))
     (λ f. reached-none level k s u front q f e)
 
-begins-here : (level : Level) (k : List Symbol) (s : State) (t : Tok) → good_then (grammar level) (endings level) k class.End ≡ true
+begins-here : (level : Level) (k : List Symbol) (s : State) (t : TextToken) → good_then (grammar level) (endings level) k class.End ≡ true
     → is_some (step (grammar level) k s t) ≡ true → Begins (grammar level) k s (t ∷ [])
 begins-here level k s t g h =
     by_option (step (grammar level) k s t)
@@ -189,7 +189,7 @@ begins-here level k s t g h =
     (step-keeps (grammar level) (endings level) (can-end level) class.End k s t p g f)))
     (λ f. let a : false ≡ true = sym (ap is_some f) ∙ h in absurd cc)
 
-pub begins-there : (level : Level) (front : List Tok) (k : List Symbol) (s : State) (q : Place State) (t : Tok)
+pub begins-there : (level : Level) (front : List TextToken) (k : List Symbol) (s : State) (q : Place State) (t : TextToken)
     → good_then (grammar level) (endings level) k class.End ≡ true → reached level k s front ≡ Some q
     → is_some (step (grammar level) q.left q.state t) ≡ true → Begins (grammar level) k s (front ++ t ∷ [])
 begins-there level [] k s q t g e h =
@@ -228,7 +228,7 @@ module _ (tells : GrammarFault → Bool) where
 
 -- `tells` is a test that holds of no limit and of no wrong syntax
 module _ (tells : GrammarFault → Bool) (no_limit : (w : Limited) (at : ℕ) → tells (fault.Limit w at) ≡ false) where
-  pub limit-not : (limits : TextLimits) (s now : State) (t : Tok) (f : GrammarFault) → limit_passed limits s now t ≡ Some f → tells f ≡ false
+  pub limit-not : (limits : TextLimits) (s now : State) (t : TextToken) (f : GrammarFault) → limit_passed limits s now t ≡ Some f → tells f ≡ false
   limit-not limits s now t =
       some-or tells (nat_lt limits.operations now.begun) (fault.Limit limited.Operations (op_place s t)) _ (no_limit limited.Operations (op_place s t))
       (some-or tells (nat_lt limits.functions now.functions) (fault.Limit limited.Functions t.at) _ (no_limit limited.Functions t.at)
@@ -236,7 +236,7 @@ module _ (tells : GrammarFault → Bool) (no_limit : (w : Limited) (at : ℕ) �
       (some-or tells (nat_lt limits.values now.counted) (fault.Limit limited.Values (value_place limits.values s t)) None
       (no_limit limited.Values (value_place limits.values s t)) (none tells))))
 
-  pub second-not : (limits : TextLimits) (level : Level) (k : List Symbol) (s : State) (t : Tok) (ts : List Tok)
+  pub second-not : (limits : TextLimits) (level : Level) (k : List Symbol) (s : State) (t : TextToken) (ts : List TextToken)
       → ((at : ℕ) → tells (fault.Syntax at) ≡ false) → tells (second_fault limits level k s t ts) ≡ false
   second-not limits level k s t ts no_syntax =
       neither tells (fits_first level sought.Op k && nat_lt limits.operations (s.begun + 1)) (fault.Limit limited.Operations t.at) _
@@ -247,12 +247,12 @@ module _ (tells : GrammarFault → Bool) (no_limit : (w : Limited) (at : ℕ) �
 -- `tells` is a test that holds of no fault but of unknown operations or types
 module _ (tells : GrammarFault → Bool) (no_limit : (w : Limited) (at : ℕ) → tells (fault.Limit w at) ≡ false)
     (no_syntax : (at : ℕ) → tells (fault.Syntax at) ≡ false) (no_number : (at : ℕ) → tells (fault.WideNumber at) ≡ false) where
-  wide-not : (e : Entry) (f : GrammarFault) → wide_fault e ≡ Some f → tells f ≡ false
+  wide-not : (e : DictEntry) (f : GrammarFault) → wide_fault e ≡ Some f → tells f ≡ false
   wide-not (entry.Whole (Some n) at) f e = some-or tells (nat_le 4294967296 n) (fault.Syntax at) None (no_syntax at) (none tells) f e
   wide-not (entry.Whole None at) f e = some-or tells true (fault.WideNumber at) None (no_number at) (none tells) f e
   wide-not _ f e = absurd cc
 
-  entry-not : (b : Bool) (e : Entry) (f : GrammarFault) → cond b (wide_fault e) None ≡ Some f → tells f ≡ false
+  entry-not : (b : Bool) (e : DictEntry) (f : GrammarFault) → cond b (wide_fault e) None ≡ Some f → tells f ≡ false
   entry-not true e f h = wide-not e f h
   entry-not false e f h = absurd cc
 
@@ -264,7 +264,7 @@ module _ (tells : GrammarFault → Bool) (no_limit : (w : Limited) (at : ℕ) �
   rest-of false held None (Some g) f h k x = let a : false ≡ true = sym (k g refl) ∙ x in absurd cc
   rest-of false held None None f h k x = refl
 
-  fault-is : (limits : TextLimits) (level : Level) (k : List Symbol) (s : State) (t : Tok) (ts : List Tok)
+  fault-is : (limits : TextLimits) (level : Level) (k : List Symbol) (s : State) (t : TextToken) (ts : List TextToken)
       → tells (fault_there limits level k s t ts) ≡ true → fault_there limits level k s t ts ≡ token_fault limits level k s t ts
   fault-is limits level k s t ts =
       rest-of (counts_held level k s t) (held_fault limits s t) (open_name_past limits k s t) (entry_fault level k s t) (token_fault limits level k s t ts)
@@ -291,14 +291,14 @@ pick-type false false true d x at second n e = absurd cc
 pick-type false false false true x at second n e = let a : false ≡ true = sym n ∙ ap tells-type e in absurd cc
 pick-type false false false false x at second n e = absurd cc
 
-refused-op : (limits : TextLimits) (level : Level) (k : List Symbol) (s : State) (t : Tok) (ts : List Tok) (at : ℕ)
+refused-op : (limits : TextLimits) (level : Level) (k : List Symbol) (s : State) (t : TextToken) (ts : List TextToken) (at : ℕ)
     → fault_there limits level k s t ts ≡ fault.UnknownOp at → (is_unknown_op level k t ≡ true) × (t.at ≡ at)
 refused-op limits level k s t ts at e =
     let h = fault-is tells-op (λ w x. refl) (λ x. refl) (λ x. refl) limits level k s t ts (ap tells-op e) in
     pick-op (is_unknown_op level k t) (is_unknown_type level k t) (is_wide_number level k t) (is_second_name level k t) t.at at
     (second_fault limits level k s t ts) (second-not tells-op (λ w x. refl) limits level k s t ts (λ x. refl)) (sym h ∙ e)
 
-refused-type : (limits : TextLimits) (level : Level) (k : List Symbol) (s : State) (t : Tok) (ts : List Tok) (at : ℕ)
+refused-type : (limits : TextLimits) (level : Level) (k : List Symbol) (s : State) (t : TextToken) (ts : List TextToken) (at : ℕ)
     → fault_there limits level k s t ts ≡ fault.UnknownType at → (is_unknown_type level k t ≡ true) × (t.at ≡ at)
 refused-type limits level k s t ts at e =
     let h = fault-is tells-type (λ w x. refl) (λ x. refl) (λ x. refl) limits level k s t ts (ap tells-type e) in
@@ -313,7 +313,7 @@ and-parts true true false e = absurd cc
 and-parts true false c e = absurd cc
 and-parts false b c e = absurd cc
 
-pub unknown : (limits : TextLimits) (level : Level) (front : List Tok) (place : Place State) (t : Tok) (rest : List Tok) (at : ℕ) (wrong right : Tok → Bool)
+pub unknown : (limits : TextLimits) (level : Level) (front : List TextToken) (place : Place State) (t : TextToken) (rest : List TextToken) (at : ℕ) (wrong right : TextToken → Bool)
     → reached level whole at_start front ≡ Some place → IsWithin limits place.state → Begins (grammar level) whole at_start front
     → (Begins (grammar level) whole at_start (front ++ t ∷ []) → ⊥) → held_past limits place.left place.state ≡ None → t.at ≡ at → wrong t ≡ true
     → Fits level right place.left place.state → IsUnknown limits level (front ++ t ∷ rest) at wrong right
@@ -332,7 +332,7 @@ unknown limits level front place t rest at wrong right r i b refuses n h w x = r
   goes_on = text-begins level (front ++ x.0 ∷ []) (begins-there level front whole at_start place x.0 (whole-good level) r x.2);
 }
 
-cause-op : (limits : TextLimits) (level : Level) (front : List Tok) (place : Place State) (rest : List Tok) (f : GrammarFault) (at : ℕ)
+cause-op : (limits : TextLimits) (level : Level) (front : List TextToken) (place : Place State) (rest : List TextToken) (f : GrammarFault) (at : ℕ)
     → reached level whole at_start front ≡ Some place → IsWithin limits place.state → Begins (grammar level) whole at_start front
     → IsCause limits level whole at_start front place rest f → f ≡ fault.UnknownOp at
     → IsUnknown limits level (front ++ rest) at (names_no_op level) (names_form level)
@@ -348,7 +348,7 @@ cause-op limits level front place _ _ at r i b (IsCause.cut h) e = absurd cc
 cause-op limits level front place _ _ at r i b (IsCause.passed_last last f g j) e =
     let a : false ≡ true = sym (limit-not tells-op (λ w x. refl) limits place.state last place.state.last f j) ∙ ap tells-op e in absurd cc
 
-cause-type : (limits : TextLimits) (level : Level) (front : List Tok) (place : Place State) (rest : List Tok) (f : GrammarFault) (at : ℕ)
+cause-type : (limits : TextLimits) (level : Level) (front : List TextToken) (place : Place State) (rest : List TextToken) (f : GrammarFault) (at : ℕ)
     → reached level whole at_start front ≡ Some place → IsWithin limits place.state → Begins (grammar level) whole at_start front
     → IsCause limits level whole at_start front place rest f → f ≡ fault.UnknownType at
     → IsUnknown limits level (front ++ rest) at begins_no_type begins_type
@@ -364,15 +364,15 @@ cause-type limits level front place _ _ at r i b (IsCause.cut h) e = absurd cc
 cause-type limits level front place _ _ at r i b (IsCause.passed_last last f g j) e =
     let a : false ≡ true = sym (limit-not tells-type (λ w x. refl) limits place.state last place.state.last f j) ∙ ap tells-type e in absurd cc
 
-pub told-unknown-op : (limits : TextLimits) (level : Level) (ts : List Tok) (at : ℕ)
+pub told-unknown-op : (limits : TextLimits) (level : Level) (ts : List TextToken) (at : ℕ)
     → parsed limits level ts ≡ Err (fault.UnknownOp at) → IsUnknown limits level ts at (names_no_op level) (names_form level)
 told-unknown-op limits level ts at e =
     let h = names-first-fault limits level ts (fault.UnknownOp at) e in
-    subst (λ (x : List Tok). IsUnknown limits level x at (names_no_op level) (names_form level)) (sym h.parts)
+    subst (λ (x : List TextToken). IsUnknown limits level x at (names_no_op level) (names_form level)) (sym h.parts)
     (cause-op limits level h.front h.place h.rest (fault.UnknownOp at) at h.leads h.within h.fits h.cause refl)
 
 pub tells-unknown-type : TellsUnknownType
 tells-unknown-type limits level ts at e =
     let h = names-first-fault limits level ts (fault.UnknownType at) e in
-    subst (λ (x : List Tok). IsUnknown limits level x at begins_no_type begins_type) (sym h.parts)
+    subst (λ (x : List TextToken). IsUnknown limits level x at begins_no_type begins_type) (sym h.parts)
     (cause-type limits level h.front h.place h.rest (fault.UnknownType at) at h.leads h.within h.fits h.cause refl)

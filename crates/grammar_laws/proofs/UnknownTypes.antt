@@ -11,7 +11,7 @@ use Rattle.module_grammar.specs.declared.symbols.Symbol.TheVariants as symbol
 use Rattle.module_grammar.specs.declared.sought.Sought.TheVariants as sought
 use Rattle.module_grammar.specs.declared.faults.TextLimits.{TextLimits}
 use Rattle.module_grammar.specs.declared.faults.GrammarFault.TheVariants as fault
-use Rattle.module_grammar.specs.declared.state.Tok.{Tok}
+use Rattle.module_grammar.specs.declared.state.TextToken.{TextToken}
 use Rattle.module_grammar.specs.declared.state.State.{State}
 use Rattle.module_grammar.specs.Engine.{line_at, step}
 use Rattle.module_grammar.specs.State.{at_start}
@@ -30,7 +30,7 @@ use Rattle.grammar_laws.proofs.Fitting.{step-sought}
 use Rattle.grammar_laws.proofs.TokenClasses.{type-class}
 use Rattle.grammar_laws.proofs.Exact.{either, first, IsGood, first-sought, begins_still, reached-still, refused-there, taken-there, type-names, type-ops, type-entries, and-right-false, first-of-three, not-both, no-entry, told, type-told, parsed-there}
 
-abbrev number_token : Tok
+abbrev number_token : TextToken
 number_token = plain_sample class.HeldNumber
 
 -- ---- where the number of a held name's values fits
@@ -109,7 +109,7 @@ no-values level (symbol.Rule r ∷ k) f = refl
 no-values level (symbol.Do a ∷ k) f = refl
 no-values level [] f = refl
 
-no-open : (limits : TextLimits) (level : Level) (k : List Symbol) (s : State) (t : Tok) → fits_first level sought.Type k ≡ true
+no-open : (limits : TextLimits) (level : Level) (k : List Symbol) (s : State) (t : TextToken) → fits_first level sought.Type k ≡ true
     → names_open k ≡ false → open_name_past limits k s t ≡ None
 no-open limits level k s t f o =
     let e : results_open k s ≡ [] = rw o refl in
@@ -131,7 +131,7 @@ finds-unknown-type-at-number limits level ts at u number none x x_named x_refuse
     let z = two-of-four (fits_first level sought.HeldNumber q.left) (is_number_kind u.token.kind) (is_one q.state.held) (are_new q.state q.state.held) y in
     none number_token refl (text-begins level (u.front ++ number_token ∷ [])
     (begins-there level u.front whole at_start q number_token (whole-good level) r (held-fits level q.left q.state good still z.0 z.1)))) in
-    subst (λ (y : List Tok). parsed limits level y ≡ Err (fault.UnknownType at)) (sym u.parts)
+    subst (λ (y : List TextToken). parsed limits level y ≡ Err (fault.UnknownType at)) (sym u.parts)
     (parsed-there limits level u.front q u.token u.rest (fault.UnknownType at) r u.within.within u.within.held refuses
     (told (counts_held level q.left q.state u.token) (held_fault limits q.state u.token) (open_name_past limits q.left q.state u.token)
     (entry_fault level q.left q.state u.token) (token_fault limits level q.left q.state u.token u.rest) held

@@ -12,10 +12,10 @@ use Rattle.module_grammar.specs.declared.faults.TextLimits.{TextLimits}
 use Rattle.module_grammar.specs.declared.faults.Limited.TheVariants as limited
 use Rattle.module_grammar.specs.declared.faults.GrammarFault.{GrammarFault}
 use Rattle.module_grammar.specs.declared.faults.GrammarFault.TheVariants as fault
-use Rattle.module_grammar.specs.declared.state.Tok.{Tok}
+use Rattle.module_grammar.specs.declared.state.TextToken.{TextToken}
 use Rattle.module_grammar.specs.declared.state.State.{State}
-use Rattle.module_grammar.specs.declared.state.Entry.{Entry}
-use Rattle.module_grammar.specs.declared.state.Entry.TheVariants as entry
+use Rattle.module_grammar.specs.declared.state.DictEntry.{DictEntry}
+use Rattle.module_grammar.specs.declared.state.DictEntry.TheVariants as entry
 use Rattle.module_grammar.specs.Engine.{Place, Begins, good_then, line_at}
 use Rattle.module_grammar.specs.State.{at_start}
 use Rattle.module_grammar.specs.Tokens.{number_of}
@@ -90,7 +90,7 @@ held-not : (b : Bool) (x y : ℕ) → tells-wide (cond b (fault.Limit limited.Op
 held-not true x y = refl
 held-not false x y = refl
 
-entry-wide : (e : Entry) (at : ℕ) → wide_fault e ≡ Some (fault.WideNumber at) → e ≡ entry.Whole None at
+entry-wide : (e : DictEntry) (at : ℕ) → wide_fault e ≡ Some (fault.WideNumber at) → e ≡ entry.Whole None at
 entry-wide (entry.Whole (Some n) x) at e = by (nat_le 4294967296 n) e
   where
     by : (b : Bool) → cond b (Some (fault.Syntax x)) None ≡ Some (fault.WideNumber at) → entry.Whole (Some n) x ≡ entry.Whole None at
@@ -99,13 +99,13 @@ entry-wide (entry.Whole (Some n) x) at e = by (nat_le 4294967296 n) e
 entry-wide (entry.Whole None x) at e = let same : x ≡ at = cc in ap (λ (y : ℕ). entry.Whole None y) same
 entry-wide _ at e = absurd cc
 
-entry-of : (b : Bool) (e : Entry) (at : ℕ) → cond b (wide_fault e) None ≡ Some (fault.WideNumber at) → (b ≡ true) × (e ≡ entry.Whole None at)
+entry-of : (b : Bool) (e : DictEntry) (at : ℕ) → cond b (wide_fault e) None ≡ Some (fault.WideNumber at) → (b ≡ true) × (e ≡ entry.Whole None at)
 entry-of true e at h = (refl, entry-wide e at h)
 entry-of false e at h = absurd cc
 
 -- ---- the law
 
-refused-wide : (limits : TextLimits) (level : Level) (front : List Tok) (place : Place State) (t : Tok) (rest : List Tok) (at : ℕ)
+refused-wide : (limits : TextLimits) (level : Level) (front : List TextToken) (place : Place State) (t : TextToken) (rest : List TextToken) (at : ℕ)
     → reached level whole at_start front ≡ Some place → IsWithin limits place.state → Begins (grammar level) whole at_start front
     → (Begins (grammar level) whole at_start (front ++ t ∷ []) → ⊥) → held_past limits place.left place.state ≡ None
     → fault_there limits level place.left place.state t rest ≡ fault.WideNumber at
@@ -139,7 +139,7 @@ refused-wide limits level front place t rest at r i b refuses n e =
         (number-fits level place.left place.state (reached-good level front whole at_start place (whole-good level) r)
         (and-left (fits_first level sought.Number place.left) _ h.0)))
 
-cause-wide : (limits : TextLimits) (level : Level) (front : List Tok) (place : Place State) (rest : List Tok) (f : GrammarFault) (at : ℕ)
+cause-wide : (limits : TextLimits) (level : Level) (front : List TextToken) (place : Place State) (rest : List TextToken) (f : GrammarFault) (at : ℕ)
     → reached level whole at_start front ≡ Some place → IsWithin limits place.state → Begins (grammar level) whole at_start front
     → IsCause limits level whole at_start front place rest f → f ≡ fault.WideNumber at
     → IsUnknown limits level (front ++ rest) at is_number is_number ⊎ IsWideEntry limits level (front ++ rest) at
@@ -154,5 +154,5 @@ cause-wide limits level front place _ _ at r i b (IsCause.passed_last last f g j
 pub tells-wide-number : TellsWideNumber
 tells-wide-number limits level ts at e =
     let h = names-first-fault limits level ts (fault.WideNumber at) e in
-    subst (λ (x : List Tok). IsUnknown limits level x at is_number is_number ⊎ IsWideEntry limits level x at) (sym h.parts)
+    subst (λ (x : List TextToken). IsUnknown limits level x at is_number is_number ⊎ IsWideEntry limits level x at) (sym h.parts)
     (cause-wide limits level h.front h.place h.rest (fault.WideNumber at) at h.leads h.within h.fits h.cause refl)

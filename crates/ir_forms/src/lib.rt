@@ -3,6 +3,7 @@
 #![tactic(auto)]
 
 mod args;
+mod copies;
 mod counts;
 mod laws;
 mod names;
@@ -12,6 +13,10 @@ mod runs;
 mod types;
 
 pub use args::{Arg, ArgValue, Scalar};
+pub use copies::{
+    copy_attr, copy_element, copy_made, copy_memref, copy_op, copy_params, copy_payload, copy_type,
+    copy_types,
+};
 pub use counts::operation_count;
 pub use int_ops::{Pred, Width};
 pub use laws::{numbers_alone, numbers_in_order, renumbered_once};

@@ -159,7 +159,7 @@ pub fn is_memref(t: &Ty) -> bool
     matches!(t, Ty::Memref(_))
 }
 
-pub(crate) fn is_token(t: &Ty) -> bool
+pub fn is_token(t: &Ty) -> bool
     ensures { result ≡ is_token t.now }
 {
     matches!(t, Ty::Token)

@@ -2,10 +2,10 @@
 use Rattle.std.proofs.Common.{◌≡◌, ℕ, zero, suc, ◌+◌, ◌<◌, ◌≤◌, ◌&&◌, Bool, true, false, List, [], ◌∷◌, length, drop, Option, Some, refl, sym, ap, ◌∙◌, arith, subst}
 use Rattle.std.specs.Prelude.{slice_get}
 use Rattle.ir_forms.specs.declared.types.Ty.{Ty}
-use Rattle.ir_verify.specs.Types.{same_type}
+use Rattle.ir_verify.specs.Types.{same_type, holds}
 use Rattle.low_forms.specs.declared.code.Reg.{Reg}
 use Rattle.low_forms.specs.declared.code.LowFunc.{LowFunc}
-use Rattle.low_forms.specs.Registers.{type_of, on_types, like_types, have_types}
+use Rattle.low_forms.specs.Registers.{type_of, on_types, like_types, have_types, hold_types}
 use Rattle.low_forms.specs.Fits.{same_reg, same_regs}
 
 -- the test of two lists is that of their elements in pairs
@@ -93,6 +93,16 @@ abbrev pub types_paired : LowFunc → Pairs Reg Ty
 types_paired f = record {
   pair = λ r t. on_types same_type t (type_of f r);
   whole = have_types f;
+  none = refl;
+  more = λ y ys. refl;
+  less = λ x xs. refl;
+  both = λ x xs y ys. refl;
+}
+
+abbrev pub values_paired : LowFunc → Pairs Reg Ty
+values_paired f = record {
+  pair = λ r t. on_types holds (type_of f r) t;
+  whole = hold_types f;
   none = refl;
   more = λ y ys. refl;
   less = λ x xs. refl;

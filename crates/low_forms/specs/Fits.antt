@@ -5,7 +5,7 @@ use Rattle.ir_forms.specs.declared.ops.Attr.{Attr}
 use Rattle.ir_forms.specs.declared.ops.Attr.TheVariants as attr
 use Rattle.ir_forms.specs.declared.types.Ty.{Ty}
 use Rattle.ir_forms.specs.declared.types.Ty.TheVariants as ty
-use Rattle.ir_verify.specs.Types.{same_type, holds, is_element, is_number, is_truth, is_index, is_memref, is_value, is_group, is_awaitable, dims_of, open_dims, extends, truncates, casts_index, literal_fits}
+use Rattle.ir_verify.specs.Types.{same_type, holds, is_element, is_number, is_truth, is_index, is_memref, is_token, is_value, is_group, is_awaitable, dims_of, open_dims, extends, truncates, casts_index, literal_fits}
 use Rattle.low_forms.specs.declared.code.Reg.{Reg}
 use Rattle.low_forms.specs.declared.code.LowAttr.{LowAttr}
 use Rattle.low_forms.specs.declared.code.LowAttr.TheVariants as low
@@ -20,12 +20,14 @@ use Rattle.low_forms.specs.declared.row.Slot.{Slot}
 use Rattle.low_forms.specs.declared.row.Slot.TheVariants as slot
 use Rattle.low_forms.specs.declared.row.Rest.{Rest}
 use Rattle.low_forms.specs.declared.row.Rest.TheVariants as rest
+use Rattle.low_forms.specs.declared.row.Results.{Results}
+use Rattle.low_forms.specs.declared.row.Results.TheVariants as results
 use Rattle.low_forms.specs.declared.row.AttrSlot.{AttrSlot}
 use Rattle.low_forms.specs.declared.row.AttrSlot.TheVariants as carries
 use Rattle.low_forms.specs.declared.row.Targets.{Targets}
 use Rattle.low_forms.specs.declared.row.Targets.TheVariants as to
 use Rattle.low_forms.specs.Rows.{row_of}
-use Rattle.low_forms.specs.Registers.{every, reg_type, type_at, on_type, on_types, like_types, have_types, callee, block_at}
+use Rattle.low_forms.specs.Registers.{every, reg_type, type_at, on_type, on_types, like_types, have_types, hold_types, callee, block_at}
 
 -- ---- slots
 
@@ -103,6 +105,12 @@ abbrev pub fit_results : Option LowFunc → LowFunc → List Reg → Bool
 fit_results None f rs = false
 fit_results (Some g) f rs = have_types f rs g.results
 
+-- or a token, and a value for each result of a launched one
+abbrev pub fit_launched : Option LowFunc → LowFunc → List Reg → Bool
+fit_launched None f rs = false
+fit_launched (Some g) f [] = false
+fit_launched (Some g) f (r ∷ rs) = on_type is_token (reg_type f r) && hold_types f rs g.results
+
 -- how many dimensions a memref has, and how many of their sizes are `?`
 abbrev pub rank_of : Option Ty → ℕ
 rank_of None = 0
@@ -139,8 +147,13 @@ result_fits s f i [] = is_absent s
 result_fits s f i (r ∷ []) = reg_fits s f i r
 result_fits s f i (r ∷ q ∷ rs) = false
 
+abbrev pub these_fit : Results → LowRow → LowModule → LowFunc → Instr → Bool
+these_fit results.Own row code f i = result_fits row.result f i i.results
+these_fit results.Called row code f i = fit_results (callee code i.attr) f i.results
+these_fit results.Launched row code f i = fit_launched (callee code i.attr) f i.results
+
 abbrev pub results_fit : LowRow → LowModule → LowFunc → Instr → Bool
-results_fit row code f i = if row.gives_results then fit_results (callee code i.attr) f i.results else result_fits row.result f i i.results
+results_fit row code f i = these_fit row.results row code f i
 
 -- ---- what instructions carry
 

@@ -1,7 +1,7 @@
 -- Registers, their types, and the functions and blocks that code names.
 use Rattle.std.specs.Prelude.{ℕ, ◌&&◌, Bool, true, false, List, [], ◌∷◌, Option, Some, None, slice_get}
 use Rattle.ir_forms.specs.declared.types.Ty.{Ty}
-use Rattle.ir_verify.specs.Types.{same_type}
+use Rattle.ir_verify.specs.Types.{same_type, holds}
 use Rattle.low_forms.specs.declared.code.Reg.{Reg}
 use Rattle.low_forms.specs.declared.code.BlockNo.{BlockNo}
 use Rattle.low_forms.specs.declared.code.LowAttr.{LowAttr}
@@ -49,6 +49,13 @@ have_types f [] [] = true
 have_types f [] (t ∷ ts) = false
 have_types f (r ∷ rs) [] = false
 have_types f (r ∷ rs) (t ∷ ts) = on_type (same_type t) (reg_type f r) && have_types f rs ts
+
+-- the registers are values that hold these types
+abbrev pub hold_types : LowFunc → List Reg → List Ty → Bool
+hold_types f [] [] = true
+hold_types f [] (t ∷ ts) = false
+hold_types f (r ∷ rs) [] = false
+hold_types f (r ∷ rs) (t ∷ ts) = on_types holds (reg_type f r) (Some t) && hold_types f rs ts
 
 -- the function that an instruction names
 abbrev pub callee : LowModule → LowAttr → Option LowFunc

@@ -7,6 +7,7 @@ use Rattle.low_forms.specs.declared.code.LowKind.TheVariants.{Row, Launch, Await
 use Rattle.low_forms.specs.declared.row.LowRow.{LowRow}
 use Rattle.low_forms.specs.declared.row.Slot.TheVariants as slot
 use Rattle.low_forms.specs.declared.row.Rest.TheVariants as rest
+use Rattle.low_forms.specs.declared.row.Results.TheVariants as results
 use Rattle.low_forms.specs.declared.row.AttrSlot.TheVariants as carries
 use Rattle.low_forms.specs.declared.row.Targets.TheVariants as to
 use Rattle.low_forms.specs.declared.row.StepKind.TheVariants as step
@@ -21,7 +22,7 @@ plain = record {
   third = slot.Absent;
   rest = rest.Nothing;
   result = slot.Absent;
-  gives_results = false;
+  results = results.Own;
   attr = carries.Nothing;
   targets = to.Instruction;
   step = step.Local;
@@ -64,7 +65,7 @@ row_of_kind MemrefLoad = record plain { first = slot.Memref; rest = rest.Indices
 row_of_kind MemrefStore = record plain { first = slot.CellOf 1; second = slot.Memref; rest = rest.Indices 1; step = step.Shared }
 row_of_kind CfBr = record plain { targets = to.One; takes = true }
 row_of_kind CfCondBr = record plain { first = slot.Truth; targets = to.Either; takes = true }
-row_of_kind FuncCall = record plain { rest = rest.Params; gives_results = true; attr = carries.Coroutine; takes = true; gives = true }
+row_of_kind FuncCall = record plain { rest = rest.Params; results = results.Called; attr = carries.Coroutine; takes = true; gives = true }
 row_of_kind AioCall = record plain { rest = rest.Params; attr = carries.Plain; targets = to.Call; takes = true; gives = true }
 row_of_kind FuncReturn = record plain { rest = rest.Returned; targets = to.Ends; step = step.Ends; takes = true }
 row_of_kind AioFail = record plain { first = slot.Code; targets = to.Ends; step = step.Ends }
@@ -92,5 +93,5 @@ row_of_kind _ = record plain { stands = false }
 
 abbrev pub row_of : LowKind → LowRow
 row_of (Row kind) = row_of_kind kind
-row_of Launch = record plain { rest = rest.Params; gives_results = true; attr = carries.Coroutine; step = step.Shared; takes = true; gives = true }
+row_of Launch = record plain { rest = rest.Params; results = results.Launched; attr = carries.Coroutine; step = step.Shared; takes = true; gives = true }
 row_of Await = record plain { first = slot.Object; targets = to.Await; step = step.Shared; uses = 1 }

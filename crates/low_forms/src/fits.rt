@@ -1,19 +1,19 @@
 //! Whether instructions and terminators fit their rows of the table.
 ghost use Rattle.std.specs.Prelude.{◌≡◌, ◌==◌, [], ◌∷◌, length, map, slice_get};
 ghost use Rattle.std.specs.Option.{option_copied};
-ghost use Rattle.low_forms.specs.Registers.{every, reg_type, type_at, on_type, on_types, like_types, have_types, callee, block_at};
-ghost use Rattle.ir_verify.specs.Types.{is_index};
+ghost use Rattle.low_forms.specs.Registers.{every, reg_type, type_at, on_type, on_types, like_types, have_types, hold_types, callee, block_at};
+ghost use Rattle.ir_verify.specs.Types.{is_index, is_token};
 ghost use Rattle.low_forms.specs.Rows.{row_of};
-ghost use Rattle.low_forms.specs.Fits.{is_absent, is_code, is_coro_id, is_coro_handle, is_coro_state, literal_of, beside, slot_fits, reg_fits, fit_params, fit_results, rank_of, open_rank_of, are_indices, rest_fits, fill, operands_fit, result_fits, results_fit, is_coroutine, is_plain, attr_fits, instr_fits, is_instruction, inner_fits};
+ghost use Rattle.low_forms.specs.Fits.{is_absent, is_code, is_coro_id, is_coro_handle, is_coro_state, literal_of, beside, slot_fits, reg_fits, fit_params, fit_results, fit_launched, rank_of, open_rank_of, are_indices, rest_fits, fill, operands_fit, result_fits, results_fit, is_coroutine, is_plain, attr_fits, instr_fits, is_instruction, inner_fits};
 
 use crate::code::{Instr, LowAttr, LowFunc, LowModule, Reg};
-use crate::row::{AttrSlot, LowRow, Rest, Slot, Targets};
+use crate::row::{AttrSlot, LowRow, Rest, Results, Slot, Targets};
 use crate::table::low_row;
-use crate::types::{have_types, like_types, reg_type, type_at};
+use crate::types::{have_types, hold_types, like_types, reg_type, type_at};
 use ir_forms::{Attr, Ty, Width};
 use ir_verify::types::{
     casts_index, extends, holds, is_awaitable, is_element, is_group, is_index, is_memref,
-    is_number, is_truth, is_value, literal_fits, open_rank, rank, same_type, truncates,
+    is_number, is_token, is_truth, is_value, literal_fits, open_rank, rank, same_type, truncates,
 };
 
 fn is_absent(slot: Slot) -> bool
@@ -145,6 +145,30 @@ pub(crate) fn fit_results(callee: Option<&LowFunc>, func: &LowFunc, regs: &[Reg]
     }
 }
 
+/// Whether the registers are a token, and a value for each result of the launched function.
+fn fit_launched(callee: Option<&LowFunc>, func: &LowFunc, regs: &[Reg]) -> bool
+    ensures { result ≡ fit_launched (option_copied callee.entry) func.now regs.now }
+{
+    match callee {
+        Some(callee) => match regs {
+            [token, values @ ..] => {
+                is_token_reg(func, *token) && hold_types(func, values, &callee.results)
+            }
+            [] => false,
+        },
+        None => false,
+    }
+}
+
+fn is_token_reg(func: &LowFunc, reg: Reg) -> bool
+    ensures { result ≡ on_type is_token (reg_type func.now reg) }
+{
+    match reg_type(func, reg) {
+        Some(t) => is_token(t),
+        None => false,
+    }
+}
+
 fn rank_of(t: Option<&Ty>) -> usize
     ensures { result ≡ rank_of (option_copied t.entry) }
 {
@@ -254,10 +278,11 @@ fn result_fits(slot: Slot, func: &LowFunc, instr: &Instr, regs: &[Reg]) -> bool
 fn results_fit(row: LowRow, code: &LowModule, func: &LowFunc, instr: &Instr) -> bool
     ensures { result ≡ results_fit row code.now func.now instr.now }
 {
-    if row.gives_results {
-        fit_results(callee(code, instr.attr), func, instr.results.as_slice())
-    } else {
-        result_fits(row.result, func, instr, instr.results.as_slice())
+    let regs = instr.results.as_slice();
+    match row.results {
+        Results::Own => result_fits(row.result, func, instr, regs),
+        Results::Called => fit_results(callee(code, instr.attr), func, regs),
+        Results::Launched => fit_launched(callee(code, instr.attr), func, regs),
     }
 }
 

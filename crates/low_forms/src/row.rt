@@ -50,6 +50,17 @@ pub enum Rest {
     Returned,
 }
 
+/// The results of an instruction.
+#[derive(Clone, Copy)]
+pub enum Results {
+    /// One of the type of its slot, or none.
+    Own,
+    /// Those of the called function.
+    Called,
+    /// A token, and a value for each result of the launched function.
+    Launched,
+}
+
 /// What an instruction carries.
 #[derive(Clone, Copy)]
 pub enum AttrSlot {
@@ -109,8 +120,7 @@ pub struct LowRow {
     pub rest: Rest,
     /// The type of the result.
     pub result: Slot,
-    /// Whether the results are those of the called function.
-    pub gives_results: bool,
+    pub results: Results,
     pub attr: AttrSlot,
     pub targets: Targets,
     pub step: StepKind,

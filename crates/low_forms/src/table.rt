@@ -3,7 +3,7 @@ ghost use Rattle.std.specs.Prelude.{◌≡◌};
 ghost use Rattle.low_forms.specs.Rows.{row_of, row_of_kind};
 
 use crate::code::LowKind;
-use crate::row::{AttrSlot, Change, LowRow, Rest, Slot, StepKind, Targets};
+use crate::row::{AttrSlot, Change, LowRow, Rest, Results, Slot, StepKind, Targets};
 use ir_forms::OpKind;
 
 /// A local instruction without operands, results, targets and references. Each row says what it has beside this.
@@ -14,7 +14,7 @@ const PLAIN: LowRow = LowRow {
     third: Slot::Absent,
     rest: Rest::Nothing,
     result: Slot::Absent,
-    gives_results: false,
+    results: Results::Own,
     attr: AttrSlot::Nothing,
     targets: Targets::Instruction,
     step: StepKind::Local,
@@ -32,7 +32,7 @@ pub fn low_row(kind: LowKind) -> LowRow
         LowKind::Row(kind) => row_of_kind(kind),
         LowKind::Launch => LowRow {
             rest: Rest::Params,
-            gives_results: true,
+            results: Results::Launched,
             attr: AttrSlot::Coroutine,
             step: StepKind::Shared,
             takes: true,
@@ -153,7 +153,7 @@ fn row_of_kind(kind: OpKind) -> LowRow
         },
         OpKind::FuncCall => LowRow {
             rest: Rest::Params,
-            gives_results: true,
+            results: Results::Called,
             attr: AttrSlot::Coroutine,
             takes: true,
             gives: true,

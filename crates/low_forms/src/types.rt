@@ -1,12 +1,12 @@
 //! The types of registers.
 ghost use Rattle.std.specs.Prelude.{◌≡◌, slice_get};
 ghost use Rattle.std.specs.Option.{option_copied};
-ghost use Rattle.low_forms.specs.Registers.{reg_type, type_at, on_type, on_types, like_types, have_types};
-ghost use Rattle.ir_verify.specs.Types.{same_type};
+ghost use Rattle.low_forms.specs.Registers.{reg_type, type_at, on_type, on_types, like_types, have_types, hold_types};
+ghost use Rattle.ir_verify.specs.Types.{same_type, holds};
 
 use crate::code::{LowFunc, Reg};
 use ir_forms::Ty;
-use ir_verify::types::same_type;
+use ir_verify::types::{holds, same_type};
 use lists::Items;
 
 /// The type of a register, if it is there.
@@ -53,6 +53,34 @@ pub(crate) fn like_types(func: &LowFunc, regs: &[Reg], other: &LowFunc, others: 
     }
     for place in 0..regs.len() {
         if !is_same(type_at(other, others, place), type_at(func, regs, place)) {
+            return false;
+        }
+    }
+    true
+}
+
+fn holds_this(value: Option<&Ty>, t: Option<&Ty>) -> bool
+    ensures { result ≡ on_types holds (option_copied value.entry) (option_copied t.entry) }
+{
+    match value {
+        None => false,
+        Some(value) => match t {
+            None => false,
+            Some(t) => holds(value, t),
+        },
+    }
+}
+
+/// Whether registers are values that hold these types.
+pub(crate) fn hold_types(func: &LowFunc, regs: &[Reg], types: &Items<Ty>) -> bool
+    ensures { result ≡ hold_types func.now regs.now types.now }
+{
+    let all = types.as_slice();
+    if regs.len() != all.len() {
+        return false;
+    }
+    for place in 0..regs.len() {
+        if !holds_this(type_at(func, regs, place), types.get(place)) {
             return false;
         }
     }

@@ -117,7 +117,7 @@ pub(crate) fn fitting_main() -> [Edit; 1] {
 pub(crate) fn broken_main() -> [Edit; 19] {
     [
         (1, count(9, 1)),
-        (0, call(plainly(), 2)),
+        (0, call(plainly(), 3)),
         (4, branch_if(2, 2, 3)),
         (3, makes(OpKind::AsyncRuntimeIsError, 1, 3)),
         (0, call(plainly(), 0)),
@@ -193,10 +193,15 @@ pub(crate) fn broken_giving() -> [Edit; 2] {
     [(11, taking(8, branch(3))), (11, branch(3))]
 }
 
+/// What a task does before coroutines are made.
+pub(crate) fn launched_lines() -> [Line; 2] {
+    [constant(0, 7), last(OpKind::FuncReturn, 0)]
+}
+
 /// The rows that stand before coroutines are made: a launch, and an await that gives its value.
 pub(crate) fn high() -> [Edit; 3] {
     [
-        (0, call(LowKind::Launch, 1)),
+        (0, call(LowKind::Launch, 2)),
         (
             4,
             Line {
@@ -208,8 +213,11 @@ pub(crate) fn high() -> [Edit; 3] {
     ]
 }
 
-pub(crate) fn broken_high() -> [Edit; 2] {
+pub(crate) fn broken_high() -> [Edit; 5] {
     [
+        (0, call(LowKind::Launch, 0)),
+        (0, call(LowKind::Launch, 1)),
+        (0, taking(1, call(LowKind::Launch, 2))),
         (7, last(OpKind::FuncReturn, 3)),
         (7, taking(2, last(OpKind::FuncReturn, 3))),
     ]

@@ -1,4 +1,5 @@
 //! Makes lowered code of plain lines.
+use crate::data::launched_lines;
 use ir_forms::{Ty, ValTy, Width};
 use lists::Items;
 use low_forms::{
@@ -182,6 +183,18 @@ fn task_func(alloc: Global, lines: &[Line]) -> Result<LowFunc, AllocError> {
     })
 }
 
+/// A task before coroutines are made: it gives what its value holds.
+fn launched_func(alloc: Global) -> Result<LowFunc, AllocError> {
+    Ok(LowFunc {
+        name: Items::new(alloc),
+        coroutine: true,
+        params: Items::new(alloc),
+        results: types(alloc, &[Kind::Number], 0)?,
+        regs: types(alloc, &[Kind::Number], 0)?,
+        blocks: blocks(alloc, &launched_lines())?,
+    })
+}
+
 /// A function that calls none.
 pub(crate) fn alone(alloc: Global, lines: &[Line], numbers: u32) -> Result<LowModule, AllocError> {
     let mut funcs = Items::new(alloc);
@@ -198,5 +211,6 @@ pub(crate) fn module(
     let mut funcs = Items::new(alloc);
     funcs.push(main_func(alloc, main, params, 3)?)?;
     funcs.push(task_func(alloc, task)?)?;
+    funcs.push(launched_func(alloc)?)?;
     Ok(LowModule { funcs })
 }

@@ -2,12 +2,10 @@
 //! assertions, and the turns of a loop.
 #![tactic(auto)]
 
-mod copies;
 mod insertion;
 mod making;
 mod turns;
 mod types;
 
-pub use copies::{copy_attr, copy_memref, copy_op, copy_params, copy_type, copy_types};
 pub use insertion::{Insertion, Known, Operand};
 pub use types::{least, minus_one, type_of, width_of};

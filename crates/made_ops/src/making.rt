@@ -3,10 +3,9 @@ ghost use Rattle.std.specs.Prelude.{◌≡◌, ◌+◌, ◌∷◌, [], IfOk, OnO
 ghost use Rattle.made_ops.specs.Made as made;
 ghost use Rattle.made_ops.specs.Made.{acts, asserts, begun, binary, compare, constant, dimension, found, found_or_new, gives, next_value, operand, type_of, new_constant};
 
-use crate::copies::copy_memref;
 use crate::insertion::{Insertion, Known, Operand};
 use crate::types::{literal, one_type, same_number, two_types};
-use ir_forms::{Attr, MemTy, NumTy, Op, OpKind, Pred, Ty, ValueNo, Width};
+use ir_forms::{Attr, MemTy, NumTy, Op, OpKind, Pred, Ty, ValueNo, Width, copy_memref};
 use lists::Items;
 use std::alloc::{AllocError, Global};
 

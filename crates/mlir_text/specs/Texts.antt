@@ -6,7 +6,7 @@ use Rattle.ir_forms.specs.declared.ops.Module.{Module}
 use Rattle.mlir_lex.specs.declared.kinds.LexFault.{LexFault}
 use Rattle.mlir_lex.specs.declared.kinds.LexFault.TheVariants as lex
 use Rattle.mlir_lex.specs.Answer.{IsFault}
-use Rattle.module_grammar.specs.declared.state.Tok.{Tok}
+use Rattle.module_grammar.specs.declared.state.TextToken.{TextToken}
 use Rattle.module_grammar.specs.declared.faults.TextLimits.{TextLimits}
 use Rattle.module_grammar.specs.declared.faults.GrammarFault.{GrammarFault}
 use Rattle.module_grammar.specs.declared.faults.GrammarFault.TheVariants as grammar
@@ -15,7 +15,7 @@ use Rattle.module_grammar.specs.Texts.{whole}
 use Rattle.module_grammar.specs.Faults.{IsTextWithin, HasFault, parsed}
 use Rattle.mlir_text.specs.declared.fault.TextFault.{TextFault}
 use Rattle.mlir_text.specs.declared.fault.TextFault.TheVariants.{Lex, Syntax, UnknownOp, UnknownType, WideNumber, Limit, OutOfMemory}
-use Rattle.mlir_text.specs.Tokens.{AreToksOf}
+use Rattle.mlir_text.specs.Tokens.{AreTokensOf}
 
 -- the levels of texts without blocks
 abbrev pub is_structured : Level → Bool
@@ -24,11 +24,11 @@ is_structured _ = true
 
 -- the bytes are cut into tokens that are a text of the level, within the limits, and stand for the module
 abbrev pub IsTextOf : TextLimits → Level → List ℕ → Module → Type 0
-IsTextOf limits level text m = (toks : List Tok) × AreToksOf text toks × IsTextWithin limits level toks m
+IsTextOf limits level text m = (text_tokens : List TextToken) × AreTokensOf text text_tokens × IsTextWithin limits level text_tokens m
 
 -- the bytes are cut into tokens whose first fault is this one
 abbrev pub HasGrammarFault : TextLimits → Level → List ℕ → GrammarFault → Type 0
-HasGrammarFault limits level text f = (toks : List Tok) × AreToksOf text toks × (parsed limits level toks ≡ Err f) × HasFault limits level whole at_start toks f
+HasGrammarFault limits level text f = (text_tokens : List TextToken) × AreTokensOf text text_tokens × (parsed limits level text_tokens ≡ Err f) × HasFault limits level whole at_start text_tokens f
 
 -- the bytes are cut into no tokens, for this reason
 abbrev pub HasLexFault : List ℕ → LexFault → Type 0

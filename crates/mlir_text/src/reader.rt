@@ -4,7 +4,7 @@ ghost use Rattle.mlir_text.specs.Texts as spec;
 ghost use Rattle.mlir_text.specs.Texts.{IsParsed, is_structured};
 
 use crate::TextFault;
-use crate::tokens::toks_of;
+use crate::tokens::text_tokens_of;
 use ir_forms::{Level, Module};
 use mlir_lex::LexFault;
 use module_grammar::{GrammarFault, TextLimits};
@@ -41,8 +41,8 @@ pub fn parse(
         Err(LexFault::OutOfMemory) => return Err(TextFault::OutOfMemory),
         Err(fault) => return Err(TextFault::Lex(fault)),
     };
-    let toks = toks_of(alloc, bytes, tokens.as_slice())?;
-    let found = module_grammar::read(alloc, level, limits, toks.as_slice())?;
+    let text_tokens = text_tokens_of(alloc, bytes, tokens.as_slice())?;
+    let found = module_grammar::read(alloc, level, limits, text_tokens.as_slice())?;
     answer_of(found)
 }
 

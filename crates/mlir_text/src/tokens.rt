@@ -4,16 +4,16 @@ ghost use Rattle.mlir_lex.specs.Answer.{AreWithin};
 ghost use Rattle.mlir_text.specs.Tokens as spec;
 
 use mlir_lex::Token;
-use module_grammar::{Bytes, Tok};
+use module_grammar::{Bytes, TextToken};
 use std::alloc::{AllocError, Global};
 
 /// A token with its bytes. `end` is where the one before ends.
-fn tok_of<'a>(bytes: &'a [u8], end: Option<u32>, token: Token) -> Tok<'a>
+fn text_token_of<'a>(bytes: &'a [u8], end: Option<u32>, token: Token) -> TextToken<'a>
     requires start { token.start ≤ token.end }
     requires end { token.end ≤ length bytes.now }
-    ensures { result ≡ spec.tok_of bytes.now end token }
+    ensures { result ≡ spec.text_token_of bytes.now end token }
 {
-    Tok {
+    TextToken {
         kind: token.kind,
         text: Bytes::new(&bytes[token.start as usize..token.end as usize]),
         at: token.start,
@@ -22,19 +22,19 @@ fn tok_of<'a>(bytes: &'a [u8], end: Option<u32>, token: Token) -> Tok<'a>
 }
 
 /// The tokens with their bytes. Each knows whether it follows at once on the one before.
-pub fn toks_of<'a>(
+pub fn text_tokens_of<'a>(
     alloc: Global,
     bytes: &'a [u8],
     tokens: &[Token],
-) -> Result<Vec<Tok<'a>>, AllocError>
+) -> Result<Vec<TextToken<'a>>, AllocError>
     requires { AreWithin tokens.now (length bytes.now) }
-    ensures { IfOk result (λ toks. toks.items ≡ spec.toks_of bytes.now tokens.now) }
+    ensures { IfOk result (λ text_tokens. text_tokens.items ≡ spec.text_tokens_of bytes.now tokens.now) }
 {
-    let mut toks = Vec::with_capacity(alloc, tokens.len())?;
+    let mut text_tokens = Vec::with_capacity(alloc, tokens.len())?;
     let mut end = None;
     for token in tokens {
-        toks.push(tok_of(bytes, end, *token))?;
+        text_tokens.push(text_token_of(bytes, end, *token))?;
         end = Some(token.end);
     }
-    Ok(toks)
+    Ok(text_tokens)
 }

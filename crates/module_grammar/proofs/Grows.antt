@@ -6,7 +6,7 @@ use Rattle.module_grammar.specs.declared.symbols.Act.{Act}
 use Rattle.module_grammar.specs.declared.symbols.Act.TheVariants as act
 use Rattle.module_grammar.specs.declared.symbols.Symbol.{Symbol}
 use Rattle.module_grammar.specs.Engine.{Leads}
-use Rattle.module_grammar.specs.declared.state.Tok.{Tok}
+use Rattle.module_grammar.specs.declared.state.TextToken.{TextToken}
 use Rattle.module_grammar.specs.declared.state.Name.{Name}
 use Rattle.module_grammar.specs.declared.state.Outer.{Outer}
 use Rattle.module_grammar.specs.declared.state.State.{State}
@@ -30,13 +30,13 @@ grew-both a b c h i = record {
   counted = omega (arith, h.counted, i.counted);
 }
 
-operands-grew : (ts : List Tok) (s : State) → Grew s (add_operands ts s)
+operands-grew : (ts : List TextToken) (s : State) → Grew s (add_operands ts s)
 operands-grew [] s = stays s
 operands-grew (t ∷ ts) s =
     grew-both s (add_operand t s) (add_operands ts (add_operand t s))
     (record { begun = le_refl _; functions = le_refl _; deepest = le_refl _; counted = omega arith }) (operands-grew ts (add_operand t s))
 
-results-grew : (ts : List Tok) (s : State) → Grew s (add_results ts s)
+results-grew : (ts : List TextToken) (s : State) → Grew s (add_results ts s)
 results-grew [] s = stays s
 results-grew (t ∷ ts) s =
     grew-both s (add_result t s) (add_results ts (add_result t s))
@@ -84,7 +84,7 @@ does-grew act.IndexParam s = record { begun = le_refl _; functions = le_refl _; 
 does-grew act.BlockParam s = record { begun = le_refl _; functions = le_refl _; deepest = le_refl _; counted = omega arith }
 does-grew _ s = record { begun = le_refl _; functions = le_refl _; deepest = le_refl _; counted = le_refl _ }
 
-pub leads-grew : (level : Level) (k : List Symbol) (s : State) (ts : List Tok) (s' : State) → Leads (grammar level) k s ts s' → Grew s s'
+pub leads-grew : (level : Level) (k : List Symbol) (s : State) (ts : List TextToken) (s' : State) → Leads (grammar level) k s ts s' → Grew s s'
 leads-grew level _ _ _ _ (Leads.ended s) = stays s
 leads-grew level _ _ _ _ (Leads.word c k s t ts s' e d) =
     let h = leads-grew level k (record s { last = t }) ts s' d in record { begun = h.begun; functions = h.functions; deepest = h.deepest; counted = h.counted }

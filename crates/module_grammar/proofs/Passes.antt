@@ -6,7 +6,7 @@ use Rattle.module_grammar.specs.declared.symbols.Symbol.{Symbol}
 use Rattle.module_grammar.specs.declared.symbols.Symbol.TheVariants as symbol
 use Rattle.module_grammar.specs.declared.faults.TextLimits.{TextLimits}
 use Rattle.module_grammar.specs.declared.faults.GrammarFault.{GrammarFault}
-use Rattle.module_grammar.specs.declared.state.Tok.{Tok}
+use Rattle.module_grammar.specs.declared.state.TextToken.{TextToken}
 use Rattle.module_grammar.specs.declared.state.State.{State}
 use Rattle.module_grammar.specs.Engine.{Place, step, close}
 use Rattle.module_grammar.specs.State.{at_start, does}
@@ -24,7 +24,7 @@ none_of false false true d e = absurd cc
 none_of false false false true e = absurd cc
 none_of false false false false e = (refl, (refl, (refl, refl)))
 
-pub none_passes : (limits : TextLimits) (before now : State) (t : Tok) → passes limits now ≡ false → limit_passed limits before now t ≡ None
+pub none_passes : (limits : TextLimits) (before now : State) (t : TextToken) → passes limits now ≡ false → limit_passed limits before now t ≡ None
 none_passes limits before now t e =
     let h = none_of (nat_lt limits.operations now.begun) (nat_lt limits.functions now.functions) (nat_lt limits.depth now.deepest)
     (nat_lt limits.values now.counted) e in
@@ -37,7 +37,7 @@ closes_alike level (symbol.Word c ∷ k) s = refl
 closes_alike level (symbol.Do a ∷ k) s = closes_alike level k (does a s)
 closes_alike level (symbol.Rule r ∷ k) s = ap (λ (o : Option State). cond (may_end r) o None) (closes_alike level k s)
 
-pub reached_more : (level : Level) (front : List Tok) (k : List Symbol) (s : State) (t : Tok) (p q : Place State)
+pub reached_more : (level : Level) (front : List TextToken) (k : List Symbol) (s : State) (t : TextToken) (p q : Place State)
     → reached level k s front ≡ Some p → step (grammar level) p.left p.state t ≡ Some q
     → reached level k s (front ++ t ∷ []) ≡ Some (settled q.left q.state)
 reached_more level [] k s t p q e h =
@@ -67,12 +67,12 @@ told_always tells fault (Some p) each e =
 
 -- ---- one token
 
-stopped : (limits : TextLimits) (level : Level) (before : Place State) (t : Tok) (ts : List Tok) (f : GrammarFault)
+stopped : (limits : TextLimits) (level : Level) (before : Place State) (t : TextToken) (ts : List TextToken) (f : GrammarFault)
     → step (grammar level) before.left before.state t ≡ None → refusal limits level before.left before.state t ts ≡ f
     → IsStopped limits level before t ts f
 stopped limits level before t ts f h e = walk-refused limits level before.left before.state t ts h ∙ ap (λ (x : GrammarFault). Err x) e
 
-refused_of : (limits : TextLimits) (level : Level) (o : Option (Place State)) (before : Place State) (t : Tok) (ts : List Tok) (f : GrammarFault)
+refused_of : (limits : TextLimits) (level : Level) (o : Option (Place State)) (before : Place State) (t : TextToken) (ts : List TextToken) (f : GrammarFault)
     → o ≡ Some before → option_map (λ (p : Place State). refusal limits level p.left p.state t ts) o ≡ Some f
     → refusal limits level before.left before.state t ts ≡ f
 refused_of limits level None before t ts f e g = absurd cc
@@ -82,13 +82,13 @@ refused_of limits level (Some p) before t ts f e g =
     subst (λ (x : Place State). refusal limits level x.left x.state t ts ≡ f) same a
 
 -- a token that doesn't fit behind the tokens has this fault
-is_refused : (limits : TextLimits) (level : Level) (o : Option (Place State)) (before : Place State) (t : Tok) (ts : List Tok) (f : GrammarFault)
+is_refused : (limits : TextLimits) (level : Level) (o : Option (Place State)) (before : Place State) (t : TextToken) (ts : List TextToken) (f : GrammarFault)
     → o ≡ Some before → step (grammar level) before.left before.state t ≡ None
     → option_map (λ (p : Place State). refusal limits level p.left p.state t ts) o ≡ Some f
     → IsStopped limits level before t ts f
 is_refused limits level o before t ts f e h g = stopped limits level before t ts f h (refused_of limits level o before t ts f e g)
 
-passed_of : (limits : TextLimits) (o : Option (Place State)) (before : Place State) (now : State) (t : Tok) (f : Option GrammarFault)
+passed_of : (limits : TextLimits) (o : Option (Place State)) (before : Place State) (now : State) (t : TextToken) (f : Option GrammarFault)
     → o ≡ Some before → option_map (λ (p : Place State). limit_passed limits p.state now t) o ≡ Some f
     → limit_passed limits before.state now t ≡ f
 passed_of limits None before now t f e g = absurd cc
@@ -98,7 +98,7 @@ passed_of limits (Some p) before now t f e g =
     subst (λ (x : Place State). limit_passed limits x.state now t ≡ f) same a
 
 -- a token that fits behind the tokens passes a limit
-is_stopped : (limits : TextLimits) (level : Level) (o : Option (Place State)) (before q after : Place State) (t : Tok) (ts : List Tok) (f : GrammarFault)
+is_stopped : (limits : TextLimits) (level : Level) (o : Option (Place State)) (before q after : Place State) (t : TextToken) (ts : List TextToken) (f : GrammarFault)
     → o ≡ Some before → step (grammar level) before.left before.state t ≡ Some q → after ≡ settled q.left q.state
     → option_map (λ (p : Place State). limit_passed limits p.state after.state t) o ≡ Some (Some f)
     → IsStopped limits level before t ts f
@@ -108,7 +108,7 @@ is_stopped limits level o before q after t ts f e h same g =
     subst (λ (x : Place State). limit_passed limits before.state x.state t ≡ Some f) same a in
     walk-passed limits level before.left before.state t ts q f h b
 
-led : (limits : TextLimits) (level : Level) (before q : Place State) (t : Tok) → step (grammar level) before.left before.state t ≡ Some q
+led : (limits : TextLimits) (level : Level) (before q : Place State) (t : TextToken) → step (grammar level) before.left before.state t ≡ Some q
     → limit_passed limits before.state (settled q.left q.state).state t ≡ None → IsLed limits level before (settled q.left q.state) t
 led limits level before q t h b = record {
   goes_on = λ ts. walk-on limits level before.left before.state t ts q h b;
@@ -116,7 +116,7 @@ led limits level before q t h b = record {
 }
 
 -- a token that fits behind the tokens leads on
-is_led : (limits : TextLimits) (level : Level) (o : Option (Place State)) (before q after : Place State) (t : Tok)
+is_led : (limits : TextLimits) (level : Level) (o : Option (Place State)) (before q after : Place State) (t : TextToken)
     → o ≡ Some before → step (grammar level) before.left before.state t ≡ Some q → after ≡ settled q.left q.state
     → option_map (λ (p : Place State). limit_passed limits p.state after.state t) o ≡ Some None
     → IsLed limits level before after t
@@ -125,27 +125,27 @@ is_led limits level o before q after t e h same g =
     subst (λ (x : Place State). IsLed limits level before x t) (sym same)
     (led limits level before q t h (subst (λ (x : Place State). limit_passed limits before.state x.state t ≡ None) same a))
 
-taken_with : (limits : TextLimits) (level : Level) (o : Option (Place State)) (before q after : Place State) (t : Tok) (ts : List Tok)
+taken_with : (limits : TextLimits) (level : Level) (o : Option (Place State)) (before q after : Place State) (t : TextToken) (ts : List TextToken)
     (f : Option GrammarFault) → o ≡ Some before → step (grammar level) before.left before.state t ≡ Some q → after ≡ settled q.left q.state
     → option_map (λ (p : Place State). limit_passed limits p.state after.state t) o ≡ Some f
     → IsTaken limits level before after t ts f
 taken_with limits level o before q after t ts (Some f) e h same g = is_stopped limits level o before q after t ts f e h same g
 taken_with limits level o before q after t ts None e h same g = is_led limits level o before q after t e h same g
 
-step_fits : (level : Level) (before q : Place State) (t u : Tok) (b : Bool) → b ≡ true → u ≡ t
+step_fits : (level : Level) (before q : Place State) (t u : TextToken) (b : Bool) → b ≡ true → u ≡ t
     → MatchBool b (step (grammar level) before.left before.state u ≡ Some q) (step (grammar level) before.left before.state u ≡ None)
     → step (grammar level) before.left before.state t ≡ Some q
-step_fits level before q t u true e same h = subst (λ (x : Tok). step (grammar level) before.left before.state x ≡ Some q) same h
+step_fits level before q t u true e same h = subst (λ (x : TextToken). step (grammar level) before.left before.state x ≡ Some q) same h
 step_fits level before q t u false e same h = absurd cc
 
-step_fails : (level : Level) (before q : Place State) (t u : Tok) (b : Bool) → b ≡ false → u ≡ t
+step_fails : (level : Level) (before q : Place State) (t u : TextToken) (b : Bool) → b ≡ false → u ≡ t
     → MatchBool b (step (grammar level) before.left before.state u ≡ Some q) (step (grammar level) before.left before.state u ≡ None)
     → step (grammar level) before.left before.state t ≡ None
-step_fails level before q t u false e same h = subst (λ (x : Tok). step (grammar level) before.left before.state x ≡ None) same h
+step_fails level before q t u false e same h = subst (λ (x : TextToken). step (grammar level) before.left before.state x ≡ None) same h
 step_fails level before q t u true e same h = absurd cc
 
 -- a token that fits behind the tokens leads on, or passes a limit
-pub is_taken : {E : Type 0} (limits : TextLimits) (level : Level) (o : Option (Place State)) (before q after : Place State) (t u : Tok) (ts : List Tok)
+pub is_taken : {E : Type 0} (limits : TextLimits) (level : Level) (o : Option (Place State)) (before q after : Place State) (t u : TextToken) (ts : List TextToken)
     (b : Bool) (r : Result (Option GrammarFault) E) → o ≡ Some before → b ≡ true → u ≡ t
     → MatchBool b (step (grammar level) before.left before.state u ≡ Some q) (step (grammar level) before.left before.state u ≡ None)
     → after ≡ settled q.left q.state
@@ -156,7 +156,7 @@ is_taken limits level o before q after t u ts b (Ok f) e y same h led g =
 is_taken limits level o before q after t u ts b (Err x) e y same h led g = tt
 
 -- a token that doesn't fit behind the tokens has its fault
-pub is_faulty : (limits : TextLimits) (level : Level) (o : Option (Place State)) (before q : Place State) (t u : Tok) (ts : List Tok) (b : Bool)
+pub is_faulty : (limits : TextLimits) (level : Level) (o : Option (Place State)) (before q : Place State) (t u : TextToken) (ts : List TextToken) (b : Bool)
     (f : GrammarFault) → o ≡ Some before → b ≡ false → u ≡ t
     → MatchBool b (step (grammar level) before.left before.state u ≡ Some q) (step (grammar level) before.left before.state u ≡ None)
     → option_map (λ (p : Place State). refusal limits level p.left p.state t ts) o ≡ Some f → IsStopped limits level before t ts f
@@ -165,17 +165,17 @@ is_faulty limits level o before q t u ts b f e n same h g =
 
 -- ---- the tokens of a loop
 
-next_of : (ts : List Tok) (i : ℕ) (d : Tok) → i < length ts → drop i ts ≡ get_or ts i d ∷ drop (i + 1) ts
+next_of : (ts : List TextToken) (i : ℕ) (d : TextToken) → i < length ts → drop i ts ≡ get_or ts i d ∷ drop (i + 1) ts
 next_of ts i d h = rw add-one (drop-cons ts i d h)
 
 -- a fault at a token of the loop is the answer
-pub walk_stops : (limits : TextLimits) (level : Level) (ts : List Tok) (i : ℕ) (t : Tok) (before after : Place State) (o : Option GrammarFault) (f : GrammarFault)
+pub walk_stops : (limits : TextLimits) (level : Level) (ts : List TextToken) (i : ℕ) (t : TextToken) (before after : Place State) (o : Option GrammarFault) (f : GrammarFault)
     (r : Result State GrammarFault) → i < length ts → t ≡ get_or ts i t → o ≡ Some f → IsTaken limits level before after t (drop (i + 1) ts) o
     → walk limits level before.left before.state (drop i ts) ≡ r → r ≡ Err f
 walk_stops limits level ts i t before after None f r h same is l e = absurd cc
 walk_stops limits level ts i t before after (Some g) f r h same is l e =
     let g_is : g ≡ f = cc in
     let s : IsStopped limits level before (get_or ts i t) (drop (i + 1) ts) g =
-    subst (λ (x : Tok). IsStopped limits level before x (drop (i + 1) ts) g) same l in
-    sym e ∙ ap (λ (x : List Tok). walk limits level before.left before.state x) (next_of ts i t h) ∙ s
+    subst (λ (x : TextToken). IsStopped limits level before x (drop (i + 1) ts) g) same l in
+    sym e ∙ ap (λ (x : List TextToken). walk limits level before.left before.state x) (next_of ts i t h) ∙ s
     ∙ ap (λ (x : GrammarFault). Err x) g_is

@@ -14,11 +14,11 @@ use Rattle.module_grammar.specs.declared.symbols.Act.TheVariants as act
 use Rattle.module_grammar.specs.declared.symbols.Symbol.{Symbol}
 use Rattle.module_grammar.specs.declared.symbols.Symbol.TheVariants as symbol
 use Rattle.module_grammar.specs.Engine.{Line, Leads, line_at, first_line, good_then, all_good, ends_within, Done, CanEnd}
-use Rattle.module_grammar.specs.declared.state.Tok.{Tok}
+use Rattle.module_grammar.specs.declared.state.TextToken.{TextToken}
 use Rattle.module_grammar.specs.declared.state.Name.{Name}
 use Rattle.module_grammar.specs.declared.state.State.{State}
-use Rattle.module_grammar.specs.declared.state.Entry.{Entry}
-use Rattle.module_grammar.specs.declared.state.Entry.TheVariants as entry
+use Rattle.module_grammar.specs.declared.state.DictEntry.{DictEntry}
+use Rattle.module_grammar.specs.declared.state.DictEntry.TheVariants as entry
 use Rattle.module_grammar.specs.Tokens.{number_of, type_of, memref_type}
 use Rattle.module_grammar.specs.State.{is_named, param_names, is_wide, entry_after, does}
 use Rattle.module_grammar.specs.Rules.{grammar, is_of, allows, lines, may_end}
@@ -50,7 +50,7 @@ lines-good Low rule.Text = refl
 lines-good Low _ = refl
 
 -- no line begins with the token
-abbrev none_of : List Line → Tok → Bool
+abbrev none_of : List Line → TextToken → Bool
 none_of [] t = true
 none_of (l ∷ ls) t = not (is_of l.first t) && none_of ls t
 
@@ -141,7 +141,7 @@ not-true : (b : Bool) → not b ≡ true → b ≡ false
 not-true true e = absurd cc
 not-true false e = refl
 
-none-line : (level : Level) (ls : List Line) (s : State) (t : Tok) → none_of ls t ≡ true → first_line (grammar level) ls s t ≡ None
+none-line : (level : Level) (ls : List Line) (s : State) (t : TextToken) → none_of ls t ≡ true → first_line (grammar level) ls s t ≡ None
 none-line level [] s t h = refl
 none-line level (l ∷ ls) s t h =
     let n : is_of l.first t ≡ false = not-true _ (and-left _ _ h) in
@@ -186,7 +186,7 @@ sampled _ u s = refl
 -- ---- dictionaries
 
 -- after the word `x` no entry is whole
-not-wide : (e : Entry) → is_wide (entry_after e (plain_sample class.EntryWord)) ≡ false
+not-wide : (e : DictEntry) → is_wide (entry_after e (plain_sample class.EntryWord)) ≡ false
 unfolding number_of
 not-wide entry.Fresh = refl
 not-wide entry.Keyed = refl
@@ -201,8 +201,8 @@ dict-done : (level : Level) (k : List Symbol) (c : Class) → ((s : State) → D
     → (s : State) → Done (grammar level) (endings level) (symbol.Rule rule.Dict ∷ k) s class.EntryWord
 unfolding is_of allows does number_of
 dict-done level k c d s =
-    let x : Tok = plain_sample class.EntryWord in
-    let z : Tok = plain_sample class.EntryClose in
+    let x : TextToken = plain_sample class.EntryWord in
+    let z : TextToken = plain_sample class.EntryClose in
     let s1 : State = record s { last = x } in
     let s2 : State = does act.Entry s1 in
     let s3 : State = record s2 { last = z } in

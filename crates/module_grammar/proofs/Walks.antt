@@ -10,7 +10,7 @@ use Rattle.module_grammar.specs.declared.faults.GrammarFault.TheVariants as faul
 use Rattle.module_grammar.specs.declared.faults.Limited.TheVariants as limited
 use Rattle.module_grammar.specs.declared.symbols.Class.TheVariants as class
 use Rattle.module_grammar.specs.Engine.{Place, Leads, Begins, good_then, step, close, closed, run}
-use Rattle.module_grammar.specs.declared.state.Tok.{Tok}
+use Rattle.module_grammar.specs.declared.state.TextToken.{TextToken}
 use Rattle.module_grammar.specs.declared.state.State.{State}
 use Rattle.module_grammar.specs.State.{at_start, module_of, does}
 use Rattle.module_grammar.specs.Rules.{grammar}
@@ -24,14 +24,14 @@ use Rattle.module_grammar.proofs.Grows.{Grew, leads-grew}
 
 -- ---- the actions that stand first
 
-pub settle-run : (level : Level) (k : List Symbol) (s : State) (ts : List Tok)
+pub settle-run : (level : Level) (k : List Symbol) (s : State) (ts : List TextToken)
     → run (grammar level) k s ts ≡ run (grammar level) (settled k s).left (settled k s).state ts
 settle-run level [] s ts = refl
 settle-run level (symbol.Word c ∷ k) s ts = refl
 settle-run level (symbol.Do a ∷ k) s ts = run-act (grammar level) a k s ts ∙ settle-run level k (does a s) ts
 settle-run level (symbol.Rule r ∷ k) s ts = refl
 
-pub settle-leads : (level : Level) (k : List Symbol) (s : State) (ts : List Tok) (s' : State)
+pub settle-leads : (level : Level) (k : List Symbol) (s : State) (ts : List TextToken) (s' : State)
     → Leads (grammar level) (settled k s).left (settled k s).state ts s' → Leads (grammar level) k s ts s'
 settle-leads level [] s ts s' d = d
 settle-leads level (symbol.Word c ∷ k) s ts s' d = d
@@ -44,7 +44,7 @@ passes : (limit n : ℕ) (f : GrammarFault) (rest : Option GrammarFault) → n �
     → cond (nat_lt limit n) (Some f) rest ≡ None
 passes limit n f rest h e = rw (le-ltb limit n h) e
 
-pub none-passed : (limits : TextLimits) (s now : State) (t : Tok) → IsWithin limits now → limit_passed limits s now t ≡ None
+pub none-passed : (limits : TextLimits) (s now : State) (t : TextToken) → IsWithin limits now → limit_passed limits s now t ≡ None
 none-passed limits s now t h =
     passes _ _ _ _ h.operations (passes _ _ _ _ h.functions (passes _ _ _ _ h.depth (passes _ _ _ _ h.values refl)))
 
@@ -55,7 +55,7 @@ not-past limit n f rest e =
     (λ y. let a : Some f ≡ None = subst (λ b. cond {A = Option GrammarFault} b (Some f) rest ≡ None) y e in absurd cc)
     (λ z. (ltb-false limit n z, subst (λ b. cond {A = Option GrammarFault} b (Some f) rest ≡ None) z e))
 
-within-now : (limits : TextLimits) (s now : State) (t : Tok) → limit_passed limits s now t ≡ None → IsWithin limits now
+within-now : (limits : TextLimits) (s now : State) (t : TextToken) → limit_passed limits s now t ≡ None → IsWithin limits now
 within-now limits s now t e =
     let a = not-past limits.operations now.begun _ _ e in
     let b = not-past limits.functions now.functions _ _ a.1 in
@@ -76,16 +76,16 @@ within-before limits s s' g h = record {
 abbrev pub next_state : Level → Place State → State
 next_state level p = (settled p.left p.state).state
 
-pub walk-refused : (limits : TextLimits) (level : Level) (k : List Symbol) (s : State) (t : Tok) (ts : List Tok)
+pub walk-refused : (limits : TextLimits) (level : Level) (k : List Symbol) (s : State) (t : TextToken) (ts : List TextToken)
     → step (grammar level) k s t ≡ None → walk limits level k s (t ∷ ts) ≡ Err (refusal limits level k s t ts)
 walk-refused limits level k s t ts e = rw (e, walk) refl
 
-pub walk-passed : (limits : TextLimits) (level : Level) (k : List Symbol) (s : State) (t : Tok) (ts : List Tok) (p : Place State) (f : GrammarFault)
+pub walk-passed : (limits : TextLimits) (level : Level) (k : List Symbol) (s : State) (t : TextToken) (ts : List TextToken) (p : Place State) (f : GrammarFault)
     → step (grammar level) k s t ≡ Some p → limit_passed limits s (next_state level p) t ≡ Some f
     → walk limits level k s (t ∷ ts) ≡ Err f
 walk-passed limits level k s t ts p f e h = rw (e, walk) (rw h refl)
 
-pub walk-on : (limits : TextLimits) (level : Level) (k : List Symbol) (s : State) (t : Tok) (ts : List Tok) (p : Place State)
+pub walk-on : (limits : TextLimits) (level : Level) (k : List Symbol) (s : State) (t : TextToken) (ts : List TextToken) (p : Place State)
     → step (grammar level) k s t ≡ Some p → limit_passed limits s (next_state level p) t ≡ None
     → walk limits level k s (t ∷ ts) ≡ walk limits level (settled p.left p.state).left (next_state level p) ts
 walk-on limits level k s t ts p e h = rw (e, walk) (rw h refl)
@@ -93,7 +93,7 @@ walk-on limits level k s t ts p e h = rw (e, walk) (rw h refl)
 -- ---- what is walked
 
 close-leads : (level : Level) (k : List Symbol) (s s' : State) → close (grammar level) k s ≡ Some s' → Leads (grammar level) k s [] s'
-close-leads level k s s' e = run-leads (grammar level) [] k s s' (ap (λ (o : Option State). closed {T = Tok} o) e)
+close-leads level k s s' e = run-leads (grammar level) [] k s s' (ap (λ (o : Option State). closed {T = TextToken} o) e)
 
 ended-some : (limits : TextLimits) (last s s' : State) → ended limits (Some last) s ≡ Ok s' → (last ≡ s') × IsWithin limits last
 ended-some limits last s s' e =
@@ -102,7 +102,7 @@ ended-some limits last s s' e =
     (λ g. let a : Ok last ≡ Ok s' = sym (rw (g, ended) refl) ∙ e in (let b : last ≡ s' = cc in b, within-now limits s last s.last g))
 
 -- what is walked is a text, and within the limits
-record IsWalked (limits : TextLimits) (level : Level) (k : List Symbol) (s : State) (ts : List Tok) (s' : State) : Type 0 where
+record IsWalked (limits : TextLimits) (level : Level) (k : List Symbol) (s : State) (ts : List TextToken) (s' : State) : Type 0 where
   leads : Leads (grammar level) k s ts s'
   within : IsWithin limits s'
 
@@ -113,7 +113,7 @@ end-walked limits level k s s' (Some x) e f =
     record { leads = close-leads level k s s' (e ∙ ap (λ (y : State). Some y) h.0); within = subst (λ (y : State). IsWithin limits y) h.0 h.1 }
 end-walked limits level k s s' None e f = absurd cc
 
-walked : (limits : TextLimits) (level : Level) (ts : List Tok) (k : List Symbol) (s s' : State)
+walked : (limits : TextLimits) (level : Level) (ts : List TextToken) (k : List Symbol) (s s' : State)
     → walk limits level k s ts ≡ Ok s' → IsWalked limits level k s ts s'
 walked limits level [] k s s' e = end-walked limits level k s s' (close (grammar level) k s) refl e
 walked limits level (t ∷ ts) k s s' e =
@@ -126,13 +126,13 @@ walked limits level (t ∷ ts) k s s' e =
 
 -- a text within the limits is walked
 end-walks : (limits : TextLimits) (level : Level) (k : List Symbol) (s s' : State) (o : Option State)
-    → close (grammar level) k s ≡ o → closed {T = Tok} o ≡ Ok s' → IsWithin limits s' → ended limits o s ≡ Ok s'
+    → close (grammar level) k s ≡ o → closed {T = TextToken} o ≡ Ok s' → IsWithin limits s' → ended limits o s ≡ Ok s'
 end-walks limits level k s s' (Some x) e f h =
     let same : s' ≡ x = cc in
     rw (none-passed limits s x s.last (subst (λ (y : State). IsWithin limits y) same h), ended) (ap (λ (y : State). Ok y) (sym same))
 end-walks limits level k s s' None e f h = absurd cc
 
-walks : (limits : TextLimits) (level : Level) (ts : List Tok) (k : List Symbol) (s s' : State)
+walks : (limits : TextLimits) (level : Level) (ts : List TextToken) (k : List Symbol) (s s' : State)
     → run (grammar level) k s ts ≡ Ok s' → IsWithin limits s' → walk limits level k s ts ≡ Ok s'
 walks limits level [] k s s' e h = end-walks limits level k s s' (close (grammar level) k s) refl e h
 walks limits level (t ∷ ts) k s s' e h =
@@ -145,7 +145,7 @@ walks limits level (t ∷ ts) k s s' e h =
     ∙ walks limits level ts (settled p.left p.state).left (next_state level p) s' r h)
     (λ f. let a : Err (t ∷ ts) ≡ Ok s' = sym (run-none (grammar level) k s t ts f) ∙ e in absurd cc)
 
-is-text : (limits : TextLimits) (level : Level) (ts : List Tok) (m : Module) (o : Result State GrammarFault)
+is-text : (limits : TextLimits) (level : Level) (ts : List TextToken) (m : Module) (o : Result State GrammarFault)
     → walk limits level whole at_start ts ≡ o → module_or o ≡ Ok m → IsTextWithin limits level ts m
 is-text limits level ts m (Ok s) e f =
     let w = walked limits level ts whole at_start s e in
@@ -170,12 +170,12 @@ settle-good level (symbol.Do a ∷ k) s h = settle-good level k (does a s) h
 settle-good level (symbol.Rule r ∷ k) s h = h
 
 -- what begins behind a token that fits, and the other way round
-pub begins-on : (level : Level) (k : List Symbol) (s : State) (t : Tok) (front : List Tok) (p : Place State) → step (grammar level) k s t ≡ Some p
+pub begins-on : (level : Level) (k : List Symbol) (s : State) (t : TextToken) (front : List TextToken) (p : Place State) → step (grammar level) k s t ≡ Some p
     → Begins (grammar level) (settled p.left p.state).left (next_state level p) front → Begins (grammar level) k s (t ∷ front)
 begins-on level k s t front p e b =
     begins-before (grammar level) k s t front p e (b.0, b.1, settle-leads level p.left p.state (front ++ b.0) b.1 b.2)
 
-pub begins-from : (level : Level) (k : List Symbol) (s : State) (t : Tok) (front : List Tok) (p : Place State) → step (grammar level) k s t ≡ Some p
+pub begins-from : (level : Level) (k : List Symbol) (s : State) (t : TextToken) (front : List TextToken) (p : Place State) → step (grammar level) k s t ≡ Some p
     → Begins (grammar level) k s (t ∷ front) → Begins (grammar level) (settled p.left p.state).left (next_state level p) front
 begins-from level k s t front p e b =
     let c = begins-after (grammar level) k s t front p e b in (
@@ -185,8 +185,8 @@ begins-from level k s t front p e b =
           (sym (settle-run level p.left p.state (front ++ c.0)) ∙ leads-run (grammar level) p.left p.state (front ++ c.0) c.1 c.2),
     )
 
-cause-before : (limits : TextLimits) (level : Level) (k : List Symbol) (s : State) (t : Tok) (front : List Tok) (p : Place State)
-    (place : Place State) (rest : List Tok) (f : GrammarFault) → step (grammar level) k s t ≡ Some p
+cause-before : (limits : TextLimits) (level : Level) (k : List Symbol) (s : State) (t : TextToken) (front : List TextToken) (p : Place State)
+    (place : Place State) (rest : List TextToken) (f : GrammarFault) → step (grammar level) k s t ≡ Some p
     → IsCause limits level (settled p.left p.state).left (next_state level p) front place rest f
     → IsCause limits level k s (t ∷ front) place rest f
 cause-before limits level k s t front p place _ _ e (IsCause.refused u rest h n) =
@@ -198,17 +198,17 @@ cause-before limits level k s t front p place _ _ e (IsCause.passed u rest q f b
 cause-before limits level k s t front p place _ _ e (IsCause.cut h) = IsCause.cut h
 cause-before limits level k s t front p place _ _ e (IsCause.passed_last last f g i) = IsCause.passed_last last f g i
 
-reached-on : (level : Level) (k : List Symbol) (s : State) (t : Tok) (ts : List Tok) (p : Place State) → step (grammar level) k s t ≡ Some p
+reached-on : (level : Level) (k : List Symbol) (s : State) (t : TextToken) (ts : List TextToken) (p : Place State) → step (grammar level) k s t ≡ Some p
     → reached level k s (t ∷ ts) ≡ reached level (settled p.left p.state).left (next_state level p) ts
 reached-on level k s t ts p e = rw (e, reached) refl
 
-fault-on : (limits : TextLimits) (level : Level) (k : List Symbol) (s : State) (t : Tok) (ts : List Tok) (p : Place State) (f : GrammarFault)
+fault-on : (limits : TextLimits) (level : Level) (k : List Symbol) (s : State) (t : TextToken) (ts : List TextToken) (p : Place State) (f : GrammarFault)
     → step (grammar level) k s t ≡ Some p → HasFault limits level (settled p.left p.state).left (next_state level p) ts f
     → HasFault limits level k s (t ∷ ts) f
 fault-on limits level k s t ts p f e h = record {
   front = t ∷ h.front;
   rest = h.rest;
-  parts = ap (λ (x : List Tok). t ∷ x) h.parts;
+  parts = ap (λ (x : List TextToken). t ∷ x) h.parts;
   place = h.place;
   leads = reached-on level k s t h.front p e ∙ h.leads;
   within = h.within;
@@ -217,7 +217,7 @@ fault-on limits level k s t ts p f e h = record {
 }
 
 -- the fault stands at the first of these tokens
-fault-here : (limits : TextLimits) (level : Level) (k : List Symbol) (s : State) (ts : List Tok) (f : GrammarFault) → IsWithin limits s
+fault-here : (limits : TextLimits) (level : Level) (k : List Symbol) (s : State) (ts : List TextToken) (f : GrammarFault) → IsWithin limits s
     → Begins (grammar level) k s [] → IsCause limits level k s [] (record { left = k; state = s }) ts f → HasFault limits level k s ts f
 fault-here limits level k s ts f h b c = record {
   front = [];
@@ -241,7 +241,7 @@ end-fault limits level k s f None h b e g =
     let same : fault.Syntax s.last.at ≡ f = cc in
     subst (λ (y : GrammarFault). HasFault limits level k s [] y) same (fault-here limits level k s [] (fault.Syntax s.last.at) h b (IsCause.cut e))
 
-refused-here : (limits : TextLimits) (level : Level) (k : List Symbol) (s : State) (t : Tok) (ts : List Tok) → IsWithin limits s
+refused-here : (limits : TextLimits) (level : Level) (k : List Symbol) (s : State) (t : TextToken) (ts : List TextToken) → IsWithin limits s
     → Begins (grammar level) k s [] → step (grammar level) k s t ≡ None → HasFault limits level k s (t ∷ ts) (refusal limits level k s t ts)
 refused-here limits level k s t ts h b e =
     by_option (held_past limits k s)
@@ -254,7 +254,7 @@ refused-here limits level k s t ts h b e =
     refused c = let a : Err (t ∷ c.0) ≡ Ok c.1 =
         sym (run-none (grammar level) k s t c.0 e) ∙ leads-run (grammar level) k s (t ∷ c.0) c.1 c.2 in absurd cc
 
-pub has-fault : (limits : TextLimits) (level : Level) (ts : List Tok) (k : List Symbol) (s : State) (f : GrammarFault)
+pub has-fault : (limits : TextLimits) (level : Level) (ts : List TextToken) (k : List Symbol) (s : State) (f : GrammarFault)
     → good_then (grammar level) (endings level) k class.End ≡ true → IsWithin limits s
     → walk limits level k s ts ≡ Err f → HasFault limits level k s ts f
 has-fault limits level [] k s f g h e =
@@ -278,7 +278,7 @@ has-fault limits level (t ∷ ts) k s f g h e =
     subst (λ (y : GrammarFault). HasFault limits level k s (t ∷ ts) y) same
     (refused-here limits level k s t ts h (completes (grammar level) (endings level) (can-end level) class.End k s g) i))
 
-parsed-fault : (limits : TextLimits) (level : Level) (ts : List Tok) (f : GrammarFault) (o : Result State GrammarFault)
+parsed-fault : (limits : TextLimits) (level : Level) (ts : List TextToken) (f : GrammarFault) (o : Result State GrammarFault)
     → walk limits level whole at_start ts ≡ o → module_or o ≡ Err f → HasFault limits level whole at_start ts f
 parsed-fault limits level ts f (Ok s) e g = absurd cc
 parsed-fault limits level ts f (Err x) e g =

@@ -12,15 +12,15 @@ use Rattle.module_grammar.specs.declared.symbols.Keyword.TheVariants as key
 use Rattle.module_grammar.specs.declared.symbols.Rule.{Rule}
 use Rattle.module_grammar.specs.declared.symbols.Rule.TheVariants as rule
 use Rattle.module_grammar.specs.Engine.{Line, line_at, Endings}
-use Rattle.module_grammar.specs.declared.state.Tok.{Tok}
+use Rattle.module_grammar.specs.declared.state.TextToken.{TextToken}
 use Rattle.module_grammar.specs.declared.state.Name.{Name}
 use Rattle.module_grammar.specs.declared.state.State.{State}
 use Rattle.module_grammar.specs.Tokens.{word_of}
 use Rattle.module_grammar.specs.State.{param_names, at_start}
 use Rattle.module_grammar.specs.Rules.{grammar, line}
 
-abbrev pub tok : TokenKind → List ℕ → Tok
-tok k text = record { kind = k; text = text; at = 0; joined = true }
+abbrev pub sample_token : TokenKind → List ℕ → TextToken
+sample_token k text = record { kind = k; text = text; at = 0; joined = true }
 
 -- a text that is longer than each of these names
 abbrev pub longer : List Name → List ℕ
@@ -28,39 +28,39 @@ longer [] = 97 ∷ []
 longer (n ∷ ns) = 97 ∷ n.text ++ longer ns
 
 -- a token of the class, for a class of which the state asks nothing
-abbrev pub plain_sample : Class → Tok
-plain_sample (class.Byte b) = tok (kind.Byte b) (b ∷ [])
-plain_sample class.Arrow = tok kind.Arrow (codes "->")
-plain_sample (class.Key k) = tok kind.Name (word_of k)
-plain_sample (class.OpName k) = tok kind.Name (name_of k)
-plain_sample class.SymbolName = tok kind.SymbolName (codes "@a")
-plain_sample class.Message = tok kind.Text (codes "\"\"")
-plain_sample class.Use = tok kind.ValueName (codes "%a")
-plain_sample class.Param = tok kind.ValueName (codes "%a")
-plain_sample class.Result = tok kind.ValueName (codes "%a")
-plain_sample class.Index = tok kind.HashName (codes "#0")
-plain_sample class.Number = tok kind.Digits (codes "0")
-plain_sample class.Negated = tok kind.Digits (codes "0")
-plain_sample class.Predicate = tok kind.Name (codes "eq")
-plain_sample class.PlainType = tok kind.Name (codes "i1")
-plain_sample class.ValueType = tok kind.BangName (codes "!async.value")
-plain_sample class.Payload = tok kind.Name (codes "i1")
-plain_sample class.MemrefType = tok kind.Memref (codes "memref<i1>")
-plain_sample class.GroupType = tok kind.BangName (codes "!async.group")
-plain_sample class.TruthType = tok kind.Name (codes "i1")
-plain_sample class.BlockName = tok kind.BlockName (codes "^b")
-plain_sample class.HeldEquals = tok (kind.Byte 61) (codes "=")
-plain_sample class.HeldNumber = tok kind.Digits (codes "0")
-plain_sample class.EntryComma = tok (kind.Byte 44) (codes ",")
-plain_sample class.EntryClose = tok (kind.Byte 125) (codes "}")
-plain_sample class.EntryWord = tok kind.Name (codes "x")
-plain_sample class.AnyWord = tok kind.Name (codes "x")
-plain_sample class.End = tok kind.End []
+abbrev pub plain_sample : Class → TextToken
+plain_sample (class.Byte b) = sample_token (kind.Byte b) (b ∷ [])
+plain_sample class.Arrow = sample_token kind.Arrow (codes "->")
+plain_sample (class.Key k) = sample_token kind.Name (word_of k)
+plain_sample (class.OpName k) = sample_token kind.Name (name_of k)
+plain_sample class.SymbolName = sample_token kind.SymbolName (codes "@a")
+plain_sample class.Message = sample_token kind.Text (codes "\"\"")
+plain_sample class.Use = sample_token kind.ValueName (codes "%a")
+plain_sample class.Param = sample_token kind.ValueName (codes "%a")
+plain_sample class.Result = sample_token kind.ValueName (codes "%a")
+plain_sample class.Index = sample_token kind.HashName (codes "#0")
+plain_sample class.Number = sample_token kind.Digits (codes "0")
+plain_sample class.Negated = sample_token kind.Digits (codes "0")
+plain_sample class.Predicate = sample_token kind.Name (codes "eq")
+plain_sample class.PlainType = sample_token kind.Name (codes "i1")
+plain_sample class.ValueType = sample_token kind.BangName (codes "!async.value")
+plain_sample class.Payload = sample_token kind.Name (codes "i1")
+plain_sample class.MemrefType = sample_token kind.Memref (codes "memref<i1>")
+plain_sample class.GroupType = sample_token kind.BangName (codes "!async.group")
+plain_sample class.TruthType = sample_token kind.Name (codes "i1")
+plain_sample class.BlockName = sample_token kind.BlockName (codes "^b")
+plain_sample class.HeldEquals = sample_token (kind.Byte 61) (codes "=")
+plain_sample class.HeldNumber = sample_token kind.Digits (codes "0")
+plain_sample class.EntryComma = sample_token (kind.Byte 44) (codes ",")
+plain_sample class.EntryClose = sample_token (kind.Byte 125) (codes "}")
+plain_sample class.EntryWord = sample_token kind.Name (codes "x")
+plain_sample class.AnyWord = sample_token kind.Name (codes "x")
+plain_sample class.End = sample_token kind.End []
 
 -- a token of the class in this state; a new name is longer than all that it must not be
-abbrev pub sample : Class → State → Tok
-sample class.Param s = tok kind.ValueName (longer (s.visible ++ param_names s.op.params))
-sample class.Result s = tok kind.ValueName (longer (s.visible ++ s.op.results))
+abbrev pub sample : Class → State → TextToken
+sample class.Param s = sample_token kind.ValueName (longer (s.visible ++ param_names s.op.params))
+sample class.Result s = sample_token kind.ValueName (longer (s.visible ++ s.op.results))
 sample c s = plain_sample c
 
 -- the classes that stand in the middle of lines, where the state can't forbid them
@@ -161,7 +161,7 @@ abbrev pub is_dict : Rule → Bool
 is_dict rule.Dict = true
 is_dict _ = false
 
-abbrev pub endings : Level → Endings Tok State
+abbrev pub endings : Level → Endings TextToken State
 endings level = record {
   sample = sample;
   usable = usable;

@@ -17,11 +17,11 @@ use Rattle.module_grammar.specs.declared.faults.Limited.TheVariants as limited
 use Rattle.module_grammar.specs.declared.faults.GrammarFault.{GrammarFault}
 use Rattle.module_grammar.specs.declared.faults.GrammarFault.TheVariants as fault
 use Rattle.module_grammar.specs.Engine.{Line, Place, Leads, Begins, step, close}
-use Rattle.module_grammar.specs.declared.state.Tok.{Tok}
+use Rattle.module_grammar.specs.declared.state.TextToken.{TextToken}
 use Rattle.module_grammar.specs.declared.state.Name.{Name}
 use Rattle.module_grammar.specs.declared.state.State.{State}
-use Rattle.module_grammar.specs.declared.state.Entry.{Entry}
-use Rattle.module_grammar.specs.declared.state.Entry.TheVariants as entry
+use Rattle.module_grammar.specs.declared.state.DictEntry.{DictEntry}
+use Rattle.module_grammar.specs.declared.state.DictEntry.TheVariants as entry
 use Rattle.module_grammar.specs.Tokens.{kind_among, is_number_kind, number_of, type_of}
 use Rattle.module_grammar.specs.State.{at_start, module_of, count_of, with_names, up, does}
 use Rattle.module_grammar.specs.Rules.{grammar, kinds_at, is_of, is_name, is_value_name, is_byte, is_one, are_new, lines, may_end}
@@ -37,11 +37,11 @@ pub record IsWithin (limits : TextLimits) (s : State) : Type 0 where
   pub values : s.counted ≤ limits.values
 
 -- the tokens are a text of the level that stands for the module, and are within the limits
-abbrev pub IsTextWithin : TextLimits → Level → List Tok → Module → Type 0
+abbrev pub IsTextWithin : TextLimits → Level → List TextToken → Module → Type 0
 IsTextWithin limits level ts m = (s : State) × Leads (grammar level) whole at_start ts s × (m ≡ module_of s) × IsWithin limits s
 
 -- the place of the token of number n or of the last, or `at` where there is none
-abbrev pub place_in : List Tok → ℕ → ℕ → ℕ
+abbrev pub place_in : List TextToken → ℕ → ℕ → ℕ
 place_in [] n at = at
 place_in (t ∷ ts) zero at = t.at
 place_in (t ∷ ts) (suc n) at = place_in ts n t.at
@@ -56,7 +56,7 @@ or_at (Some at) other = at
 or_at None other = other
 
 -- where an operation begins with which the token ends: at the first of the names held, which are its results, or here
-abbrev pub op_place : State → Tok → ℕ
+abbrev pub op_place : State → TextToken → ℕ
 op_place before t = place_in before.held 0 t.at
 
 -- the place of the last name, or the one before
@@ -66,7 +66,7 @@ last_place (n ∷ ns) before = last_place ns (Some n.at)
 
 -- the values' name that passes the limit, where the token settles what the names before it are: the names held, the results
 -- that `=` ends, the result whose values a number counts, or the name here
-abbrev pub value_place : ℕ → State → Tok → ℕ
+abbrev pub value_place : ℕ → State → TextToken → ℕ
 value_place limit before t =
     place_in before.held (limit - before.counted)
     (if is_byte 61 t.kind then or_at (name_past before.op.results (limit - before.counted)) t.at
@@ -78,7 +78,7 @@ passes limits s =
     nat_lt limits.operations s.begun || nat_lt limits.functions s.functions || nat_lt limits.depth s.deepest || nat_lt limits.values s.counted
 
 -- the limit that a token passes, by which the state is led to `now`
-abbrev pub limit_passed : TextLimits → State → State → Tok → Option GrammarFault
+abbrev pub limit_passed : TextLimits → State → State → TextToken → Option GrammarFault
 limit_passed limits before now t =
     if nat_lt limits.operations now.begun then Some (fault.Limit limited.Operations (op_place before t))
     else (if nat_lt limits.functions now.functions then Some (fault.Limit limited.Functions t.at)
@@ -155,7 +155,7 @@ abbrev pub has_row : Level → List ℕ → Bool
 has_row level text = stands_if level (kind_among all_kinds text)
 
 -- the token begins a type of the grammar
-abbrev pub begins_type : Tok → Bool
+abbrev pub begins_type : TextToken → Bool
 begins_type t = is_some (type_of t) || is_of class.ValueType t
 
 -- the names on the left of an operation whose `=` isn't read yet
@@ -178,28 +178,28 @@ counts_values (symbol.Word class.Number ∷ k) = names_open k
 counts_values _ = false
 
 -- the fault of the number of a whole entry that isn't below 2^32
-abbrev pub wide_fault : Entry → Option GrammarFault
+abbrev pub wide_fault : DictEntry → Option GrammarFault
 wide_fault (entry.Whole (Some n) at) = if nat_le 4294967296 n then Some (fault.Syntax at) else None
 wide_fault (entry.Whole None at) = Some (fault.WideNumber at)
 wide_fault _ = None
 
 -- the fault of the entry of a dictionary that ends here
-abbrev pub entry_fault : Level → List Symbol → State → Tok → Option GrammarFault
+abbrev pub entry_fault : Level → List Symbol → State → TextToken → Option GrammarFault
 entry_fault level k s t =
     if fits_first level sought.EntryEnd k && (is_byte 44 t.kind || is_byte 125 t.kind) then wide_fault s.entry else None
 
 -- the results of the next operation are held, and the token is their number, but a wide one
-abbrev pub counts_held : Level → List Symbol → State → Tok → Bool
+abbrev pub counts_held : Level → List Symbol → State → TextToken → Bool
 counts_held level k s t = fits_first level sought.HeldNumber k && is_number_kind t.kind && is_one s.held && are_new s s.held
 
 -- how many values a name has that begins an operation, where these tokens follow it: as many as the number behind a colon says,
 -- which stands for more than any limit where it is wide, else one
-abbrev pub values_before : List Tok → ℕ
+abbrev pub values_before : List TextToken → ℕ
 values_before (c ∷ n ∷ ts) = if is_byte 58 c.kind && is_number_kind n.kind then unwrap_or (number_of n) 4294967296 else 1
 values_before _ = 1
 
 -- a second definition of a visible name, before these tokens: the limits that a new name would pass here, else Syntax
-abbrev pub second_fault : TextLimits → Level → List Symbol → State → Tok → List Tok → GrammarFault
+abbrev pub second_fault : TextLimits → Level → List Symbol → State → TextToken → List TextToken → GrammarFault
 second_fault limits level k s t rest =
     if begins && nat_lt limits.operations (s.begun + 1) then fault.Limit limited.Operations t.at
     else (if nat_lt limits.values (up (with_names s.counted (results_open k s)) values) then fault.Limit limited.Values t.at else fault.Syntax t.at)
@@ -211,23 +211,23 @@ second_fault limits level k s t rest =
     values = if begins then values_before rest else 1
 
 -- an operation's name fits here, and the token is a name that no operation of the level has
-abbrev pub is_unknown_op : Level → List Symbol → Tok → Bool
+abbrev pub is_unknown_op : Level → List Symbol → TextToken → Bool
 is_unknown_op level k t = fits_first level sought.Op k && is_name t.kind && not (has_row level t.text)
 
 -- a type fits here, and the token begins none
-abbrev pub is_unknown_type : Level → List Symbol → Tok → Bool
+abbrev pub is_unknown_type : Level → List Symbol → TextToken → Bool
 is_unknown_type level k t = fits_first level sought.Type k && not (begins_type t)
 
 -- a number fits here, and the token is one
-abbrev pub is_wide_number : Level → List Symbol → Tok → Bool
+abbrev pub is_wide_number : Level → List Symbol → TextToken → Bool
 is_wide_number level k t = fits_first level sought.Number k && is_number_kind t.kind
 
 -- a new name fits here, and the token is a name
-abbrev pub is_second_name : Level → List Symbol → Tok → Bool
+abbrev pub is_second_name : Level → List Symbol → TextToken → Bool
 is_second_name level k t = is_value_name t.kind && (fits_first level sought.Param k || fits_first level sought.Result k)
 
 -- the fault of a token that doesn't fit, where no name before it passes a limit
-abbrev pub token_fault : TextLimits → Level → List Symbol → State → Tok → List Tok → GrammarFault
+abbrev pub token_fault : TextLimits → Level → List Symbol → State → TextToken → List TextToken → GrammarFault
 token_fault limits level k s t rest =
     if is_unknown_op level k t then fault.UnknownOp t.at
     else (if is_unknown_type level k t then fault.UnknownType t.at
@@ -236,7 +236,7 @@ token_fault limits level k s t rest =
     else fault.Syntax t.at)))
 
 -- the operations begun pass their limit at the name held, or the values do
-abbrev pub held_fault : TextLimits → State → Tok → GrammarFault
+abbrev pub held_fault : TextLimits → State → TextToken → GrammarFault
 held_fault limits s t =
     if nat_lt limits.operations (s.begun + 1) then fault.Limit limited.Operations (place_in s.held 0 t.at)
     else fault.Limit limited.Values (place_in s.held 0 t.at)
@@ -246,12 +246,12 @@ names_fault (Some at) other = fault.Limit limited.Values at
 names_fault None other = other
 
 -- the place of the name that passes the limit, or of the last where the token is a wide number of its values
-abbrev pub past_or_wide : Option ℕ → List Symbol → State → Tok → Option ℕ
+abbrev pub past_or_wide : Option ℕ → List Symbol → State → TextToken → Option ℕ
 past_or_wide (Some at) k s t = Some at
 past_or_wide None k s t = if counts_values k && is_number_kind t.kind then last_place s.op.results None else None
 
 -- the place of the name that passes the limit, among results whose `=` isn't read yet; a wide number counts more than any limit
-abbrev pub open_name_past : TextLimits → List Symbol → State → Tok → Option ℕ
+abbrev pub open_name_past : TextLimits → List Symbol → State → TextToken → Option ℕ
 open_name_past limits k s t = past_or_wide (name_past (results_open k s) (limits.values - s.counted)) k s t
 
 abbrev pub fault_or : Option GrammarFault → GrammarFault → GrammarFault
@@ -259,7 +259,7 @@ fault_or (Some f) other = f
 fault_or None other = other
 
 -- the fault of a token that doesn't fit, where the names held are within the limit as far as they can only be operands
-abbrev pub fault_there : TextLimits → Level → List Symbol → State → Tok → List Tok → GrammarFault
+abbrev pub fault_there : TextLimits → Level → List Symbol → State → TextToken → List TextToken → GrammarFault
 fault_there limits level k s t rest =
     if counts_held level k s t then held_fault limits s t
     else names_fault (open_name_past limits k s t) (fault_or (entry_fault level k s t) (token_fault limits level k s t rest))
@@ -277,7 +277,7 @@ held_past limits k s =
     if holds_operands k s && nat_lt (limits.values - s.counted) (length s.held) then Some (place_in s.held (limits.values - s.counted) 0) else None
 
 -- the fault of a token that doesn't fit, before these tokens
-abbrev pub refusal : TextLimits → Level → List Symbol → State → Tok → List Tok → GrammarFault
+abbrev pub refusal : TextLimits → Level → List Symbol → State → TextToken → List TextToken → GrammarFault
 refusal limits level k s t rest = names_fault (held_past limits k s) (fault_there limits level k s t rest)
 
 -- ---- the whole text
@@ -298,7 +298,7 @@ ended limits (Some last) s = elim (limit_passed limits s last s.last) [
 ]
 
 -- The last state, or the first fault. `k` and `s` are settled.
-abbrev pub walk : TextLimits → Level → List Symbol → State → List Tok → Result State GrammarFault
+abbrev pub walk : TextLimits → Level → List Symbol → State → List TextToken → Result State GrammarFault
 walk limits level k s [] = ended limits (close (grammar level) k s) s
 walk limits level k s (t ∷ ts) = elim (step (grammar level) k s t) [
   | None ↦ Err (refusal limits level k s t ts)
@@ -313,13 +313,13 @@ module_or (Ok s) = Ok (module_of s)
 module_or (Err f) = Err f
 
 -- the module that the tokens of a text stand for, or their first fault
-abbrev pub parsed : TextLimits → Level → List Tok → Result Module GrammarFault
+abbrev pub parsed : TextLimits → Level → List TextToken → Result Module GrammarFault
 parsed limits level ts = module_or (walk limits level whole at_start ts)
 
 -- ---- the laws
 
 -- the place to which tokens lead, where each of them fits
-abbrev pub reached : Level → List Symbol → State → List Tok → Option (Place State)
+abbrev pub reached : Level → List Symbol → State → List TextToken → Option (Place State)
 reached level k s [] = Some (record { left = k; state = s })
 reached level k s (t ∷ ts) = elim (step (grammar level) k s t) [
   | None ↦ None
@@ -329,15 +329,15 @@ reached level k s (t ∷ ts) = elim (step (grammar level) k s t) [
 -- Why a fault is that of a text, of which the front leads to the place and the rest is left: the next token doesn't fit, and the
 -- names held that can only be operands are within the limit, or pass it; or the token fits and passes a limit; or no token is left
 -- where the text isn't at its end, or what stands behind the last passes a limit.
-pub data IsCause (limits : TextLimits) (level : Level) (k : List Symbol) (s : State) (front : List Tok) (place : Place State) :
-    List Tok → GrammarFault → Type 0 where
-  refused : (t : Tok) (rest : List Tok) → (Begins (grammar level) k s (front ++ t ∷ []) → ⊥)
+pub data IsCause (limits : TextLimits) (level : Level) (k : List Symbol) (s : State) (front : List TextToken) (place : Place State) :
+    List TextToken → GrammarFault → Type 0 where
+  refused : (t : TextToken) (rest : List TextToken) → (Begins (grammar level) k s (front ++ t ∷ []) → ⊥)
       → held_past limits place.left place.state ≡ None
       → IsCause limits level k s front place (t ∷ rest) (fault_there limits level place.left place.state t rest)
-  held : (t : Tok) (rest : List Tok) (at : ℕ) → (Begins (grammar level) k s (front ++ t ∷ []) → ⊥)
+  held : (t : TextToken) (rest : List TextToken) (at : ℕ) → (Begins (grammar level) k s (front ++ t ∷ []) → ⊥)
       → held_past limits place.left place.state ≡ Some at
       → IsCause limits level k s front place (t ∷ rest) (fault.Limit limited.Values at)
-  passed : (t : Tok) (rest : List Tok) (p : Place State) (f : GrammarFault) → Begins (grammar level) k s (front ++ t ∷ [])
+  passed : (t : TextToken) (rest : List TextToken) (p : Place State) (f : GrammarFault) → Begins (grammar level) k s (front ++ t ∷ [])
       → step (grammar level) place.left place.state t ≡ Some p
       → limit_passed limits place.state (settled p.left p.state).state t ≡ Some f
       → IsCause limits level k s front place (t ∷ rest) f
@@ -348,9 +348,9 @@ pub data IsCause (limits : TextLimits) (level : Level) (k : List Symbol) (s : St
 
 -- The tokens, read from these symbols and this state on, have this first fault: what stands before it begins a text, is within
 -- the limits, and leads to the place whose fault it is.
-pub record HasFault (limits : TextLimits) (level : Level) (k : List Symbol) (s : State) (ts : List Tok) (f : GrammarFault) : Type 0 where
-  pub front : List Tok
-  pub rest : List Tok
+pub record HasFault (limits : TextLimits) (level : Level) (k : List Symbol) (s : State) (ts : List TextToken) (f : GrammarFault) : Type 0 where
+  pub front : List TextToken
+  pub rest : List TextToken
   pub parts : ts ≡ front ++ rest
   pub place : Place State
   pub leads : reached level k s front ≡ Some place
@@ -360,27 +360,27 @@ pub record HasFault (limits : TextLimits) (level : Level) (k : List Symbol) (s :
 
 -- each fault that is answered is the first of the text
 abbrev pub NamesFirstFault : Type 0
-NamesFirstFault = (limits : TextLimits) (level : Level) (ts : List Tok) (f : GrammarFault)
+NamesFirstFault = (limits : TextLimits) (level : Level) (ts : List TextToken) (f : GrammarFault)
     → parsed limits level ts ≡ Err f → HasFault limits level whole at_start ts f
 
 -- the module is that of a text within the limits, exactly where it is the answer
 abbrev pub AcceptsExactly : Type 0
-AcceptsExactly = (limits : TextLimits) (level : Level) (ts : List Tok) (m : Module)
+AcceptsExactly = (limits : TextLimits) (level : Level) (ts : List TextToken) (m : Module)
     → (parsed limits level ts ≡ Ok m) ↔ IsTextWithin limits level ts m
 
 -- the token is a name that no operation of the level has
-abbrev pub names_no_op : Level → Tok → Bool
+abbrev pub names_no_op : Level → TextToken → Bool
 names_no_op level t = is_name t.kind && not (has_row level t.text)
 
 -- the token is the name of an operation that stands in the bodies of the level
-abbrev pub names_form : Level → Tok → Bool
+abbrev pub names_form : Level → TextToken → Bool
 names_form level t = is_name t.kind && is_some (kind_among (kinds_at level) t.text)
 
-abbrev pub begins_no_type : Tok → Bool
+abbrev pub begins_no_type : TextToken → Bool
 begins_no_type t = not (begins_type t)
 
 -- The tokens lead to a place, and what they begin is within the limits, with the names held as far as they can only be operands.
-pub record LeadsWithin (limits : TextLimits) (level : Level) (front : List Tok) : Type 0 where
+pub record LeadsWithin (limits : TextLimits) (level : Level) (front : List TextToken) : Type 0 where
   pub place : Place State
   pub leads : reached level whole at_start front ≡ Some place
   pub within : IsWithin limits place.state
@@ -388,34 +388,34 @@ pub record LeadsWithin (limits : TextLimits) (level : Level) (front : List Tok) 
 
 -- Why something is unknown: at this place stands a wrong token, with which no text of the level goes on behind what stands
 -- before it, and a right one, put in its place, goes on there.
-pub record IsUnknown (limits : TextLimits) (level : Level) (ts : List Tok) (at : ℕ) (wrong right : Tok → Bool) : Type 0 where
-  pub front : List Tok
-  pub token : Tok
-  pub rest : List Tok
+pub record IsUnknown (limits : TextLimits) (level : Level) (ts : List TextToken) (at : ℕ) (wrong right : TextToken → Bool) : Type 0 where
+  pub front : List TextToken
+  pub token : TextToken
+  pub rest : List TextToken
   pub parts : ts ≡ front ++ token ∷ rest
   pub here : token.at ≡ at
   pub is_wrong : wrong token ≡ true
   pub within : LeadsWithin limits level front
   pub fits : BeginsText level front
   pub refused : BeginsText level (front ++ token ∷ []) → ⊥
-  pub other : Tok
+  pub other : TextToken
   pub is_right : right other ≡ true
   pub goes_on : BeginsText level (front ++ other ∷ [])
 
 -- UnknownOp is answered exactly at a name that no operation of the level has, where that of one would fit
 abbrev pub TellsUnknownOp : Type 0
-TellsUnknownOp = (limits : TextLimits) (level : Level) (ts : List Tok) (at : ℕ)
+TellsUnknownOp = (limits : TextLimits) (level : Level) (ts : List TextToken) (at : ℕ)
     → (parsed limits level ts ≡ Err (fault.UnknownOp at)) ↔ IsUnknown limits level ts at (names_no_op level) (names_form level)
 
 -- UnknownType is answered at a token that begins no type, and only where one that begins a type would fit
 abbrev pub TellsUnknownType : Type 0
-TellsUnknownType = (limits : TextLimits) (level : Level) (ts : List Tok) (at : ℕ)
+TellsUnknownType = (limits : TextLimits) (level : Level) (ts : List TextToken) (at : ℕ)
     → parsed limits level ts ≡ Err (fault.UnknownType at) → IsUnknown limits level ts at begins_no_type begins_type
 
 -- It is answered wherever a token that begins a type would fit, but not each name, as within the brackets of a dictionary, at
 -- any token that begins none and is no number, which may be that of a name's values.
 abbrev pub FindsUnknownType : Type 0
-FindsUnknownType = (limits : TextLimits) (level : Level) (ts : List Tok) (at : ℕ)
+FindsUnknownType = (limits : TextLimits) (level : Level) (ts : List TextToken) (at : ℕ)
     → (u : IsUnknown limits level ts at begins_no_type begins_type) → is_number_kind u.token.kind ≡ false
-    → (name : Tok) → is_name name.kind ≡ true → (BeginsText level (u.front ++ name ∷ []) → ⊥)
+    → (name : TextToken) → is_name name.kind ≡ true → (BeginsText level (u.front ++ name ∷ []) → ⊥)
     → parsed limits level ts ≡ Err (fault.UnknownType at)

@@ -4,7 +4,7 @@ use Rattle.op_table.specs.declared.rows.Level.{Level}
 use Rattle.module_grammar.specs.declared.machine.Machine.{Machine}
 use Rattle.module_grammar.specs.declared.faults.TextLimits.{TextLimits}
 use Rattle.module_grammar.specs.declared.faults.GrammarFault.{GrammarFault}
-use Rattle.module_grammar.specs.declared.state.Tok.{Tok}
+use Rattle.module_grammar.specs.declared.state.TextToken.{TextToken}
 use Rattle.module_grammar.specs.declared.state.State.{State}
 use Rattle.module_grammar.specs.Engine.{Place}
 use Rattle.module_grammar.specs.State.{at_start}
@@ -24,15 +24,15 @@ IsClosed true end s = end ≡ Some s
 IsClosed false end s = end ≡ None
 
 -- at a place, the first of the tokens has a fault
-abbrev pub IsStopped : TextLimits → Level → Place State → Tok → List Tok → GrammarFault → Type 0
+abbrev pub IsStopped : TextLimits → Level → Place State → TextToken → List TextToken → GrammarFault → Type 0
 IsStopped limits level before t rest f = walk limits level before.left before.state (t ∷ rest) ≡ Err f
 
 -- from one place the token leads to the other
-pub record IsLed (limits : TextLimits) (level : Level) (before after : Place State) (t : Tok) : Type 0 where
-  pub goes_on : (ts : List Tok) → walk limits level before.left before.state (t ∷ ts) ≡ walk limits level after.left after.state ts
-  pub reaches : (front : List Tok) → reached level whole at_start front ≡ Some before → reached level whole at_start (front ++ t ∷ []) ≡ Some after
+pub record IsLed (limits : TextLimits) (level : Level) (before after : Place State) (t : TextToken) : Type 0 where
+  pub goes_on : (ts : List TextToken) → walk limits level before.left before.state (t ∷ ts) ≡ walk limits level after.left after.state ts
+  pub reaches : (front : List TextToken) → reached level whole at_start front ≡ Some before → reached level whole at_start (front ++ t ∷ []) ≡ Some after
 
 -- the token, before these, leads from one place to the other, or has this fault
-abbrev pub IsTaken : TextLimits → Level → Place State → Place State → Tok → List Tok → Option GrammarFault → Type 0
+abbrev pub IsTaken : TextLimits → Level → Place State → Place State → TextToken → List TextToken → Option GrammarFault → Type 0
 IsTaken limits level before after t rest (Some f) = IsStopped limits level before t rest f
 IsTaken limits level before after t rest None = IsLed limits level before after t

@@ -20,7 +20,7 @@ use Rattle.module_grammar.specs.declared.symbols.Act.TheVariants as act
 use Rattle.module_grammar.specs.declared.symbols.Symbol.{Symbol}
 use Rattle.module_grammar.specs.declared.symbols.Symbol.TheVariants as symbol
 use Rattle.module_grammar.specs.Engine.{Line, Table}
-use Rattle.module_grammar.specs.declared.state.Tok.{Tok}
+use Rattle.module_grammar.specs.declared.state.TextToken.{TextToken}
 use Rattle.module_grammar.specs.declared.state.Name.{Name}
 use Rattle.module_grammar.specs.declared.state.State.{State}
 use Rattle.module_grammar.specs.Tokens.{is_up_to, kind_among, word_of, is_name_of, number_of, is_number_kind, is_index, type_of, payload_of, is_memref_type, is_group_type, is_truth_type, predicate_of}
@@ -240,7 +240,7 @@ form_or_none before ss None = None
 form_or_none before ss (Some k) = Some (line (class.OpName k) (before ++ doing (act.Kind k) ++ form k ++ ss))
 
 -- the line of the form whose name the token is
-abbrev pub form_chosen : Level → List Symbol → List Symbol → Tok → Option Line
+abbrev pub form_chosen : Level → List Symbol → List Symbol → TextToken → Option Line
 form_chosen level before ss t = if is_name t.kind then form_or_none before ss (kind_among (kinds_at level) t.text) else None
 
 abbrev pub lines : Level → Rule → List Line
@@ -427,7 +427,7 @@ is_one_type class.TruthType = true
 is_one_type _ = false
 
 -- what a token is of itself
-unfoldable pub is_of : Class → Tok → Bool
+unfoldable pub is_of : Class → TextToken → Bool
 is_of (class.Byte b) t = is_byte b t.kind
 is_of class.Arrow t = is_arrow t.kind
 is_of (class.Key k) t = is_name t.kind && bytes_eq t.text (word_of k)
@@ -457,28 +457,28 @@ is_of class.AnyWord t = is_inner t.kind
 is_of class.End t = is_end t.kind
 
 -- none of the names is that of one of the tokens
-abbrev pub none_named : List Name → List Tok → Bool
+abbrev pub none_named : List Name → List TextToken → Bool
 none_named names [] = true
 none_named names (t ∷ ts) = not (is_named names t.text) && none_named names ts
 
-abbrev pub holds_text : List Tok → List ℕ → Bool
+abbrev pub holds_text : List TextToken → List ℕ → Bool
 holds_text [] text = false
 holds_text (t ∷ ts) text = bytes_eq t.text text || holds_text ts text
 
 -- no text stands twice among the tokens
-abbrev pub are_distinct : List Tok → Bool
+abbrev pub are_distinct : List TextToken → Bool
 are_distinct [] = true
 are_distinct (t ∷ ts) = not (holds_text ts t.text) && are_distinct ts
 
 -- these tokens are new names: none is visible or a result of the open operation, and none stands twice
-abbrev pub are_new : State → List Tok → Bool
+abbrev pub are_new : State → List TextToken → Bool
 are_new s ts = none_named s.visible ts && none_named s.op.results ts && are_distinct ts
 
-abbrev pub is_one : List Tok → Bool
+abbrev pub is_one : List TextToken → Bool
 is_one ts = length ts == 1
 
 -- what the state asks besides
-unfoldable pub allows : Class → State → Tok → Bool
+unfoldable pub allows : Class → State → TextToken → Bool
 allows class.Param s t = not (is_named (s.visible ++ param_names s.op.params) t.text)
 allows class.Result s t = not (is_named (s.visible ++ s.op.results) t.text)
 allows class.HeldEquals s t = are_new s s.held
@@ -488,7 +488,7 @@ allows class.EntryClose s t = not (is_wide s.entry)
 allows _ s t = true
 
 -- the table of a level
-abbrev pub grammar : Level → Table Tok State
+abbrev pub grammar : Level → Table TextToken State
 grammar level = record {
   lines = lines level;
   may_end = may_end;

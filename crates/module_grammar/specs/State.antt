@@ -22,15 +22,15 @@ use Rattle.ir_forms.specs.declared.ops.Module.{Module}
 use Rattle.ir_forms.specs.Ops.{kind_of, operands_of}
 use Rattle.module_grammar.specs.declared.symbols.Act.{Act}
 use Rattle.module_grammar.specs.declared.symbols.Act.TheVariants as act
-use Rattle.module_grammar.specs.declared.state.Tok.{Tok}
+use Rattle.module_grammar.specs.declared.state.TextToken.{TextToken}
 use Rattle.module_grammar.specs.declared.state.Name.{Name}
 use Rattle.module_grammar.specs.declared.state.Param.{Param}
 use Rattle.module_grammar.specs.declared.state.OpenOp.{OpenOp}
 use Rattle.module_grammar.specs.declared.state.OpenBody.{OpenBody}
 use Rattle.module_grammar.specs.declared.state.Outer.{Outer}
 use Rattle.module_grammar.specs.declared.state.OpenFunc.{OpenFunc}
-use Rattle.module_grammar.specs.declared.state.Entry.{Entry}
-use Rattle.module_grammar.specs.declared.state.Entry.TheVariants as entry
+use Rattle.module_grammar.specs.declared.state.DictEntry.{DictEntry}
+use Rattle.module_grammar.specs.declared.state.DictEntry.TheVariants as entry
 use Rattle.module_grammar.specs.declared.state.State.{State}
 use Rattle.module_grammar.specs.Tokens.{number_of, type_of, payload_of, predicate_of, symbol_of, string_of, is_number_kind}
 
@@ -302,7 +302,7 @@ op_of o = roll-Op (record {
 -- ---- dictionaries
 
 -- what a token other than a bracket or a comma makes of an entry
-abbrev pub entry_after : Entry → Tok → Entry
+abbrev pub entry_after : DictEntry → TextToken → DictEntry
 entry_after entry.Fresh t = if bytes_eq t.text (codes "aio.at") then entry.Keyed else entry.Other
 entry_after entry.Keyed t = if bytes_eq t.text (codes "=") then entry.Equated else entry.Other
 entry_after entry.Equated t = if is_number_kind t.kind then entry.Numbered (number_of t) t.at else entry.Other
@@ -312,12 +312,12 @@ entry_after (entry.Whole n at) t = entry.Other
 entry_after entry.Other t = entry.Other
 
 -- the number of a whole entry, else the one before
-abbrev pub entry_number : Entry → Option ℕ → Option ℕ
+abbrev pub entry_number : DictEntry → Option ℕ → Option ℕ
 entry_number (entry.Whole n at) before = n
 entry_number _ before = before
 
 -- the entry is whole, and its number isn't below 2^32
-abbrev pub is_wide : Entry → Bool
+abbrev pub is_wide : DictEntry → Bool
 is_wide (entry.Whole (Some n) at) = nat_le 4294967296 n
 is_wide (entry.Whole None at) = true
 is_wide _ = false
@@ -338,14 +338,14 @@ end_op s = record s {
 abbrev pub begin_op : State → State
 begin_op s = record s { op = no_op (as_number (up s.begun 1)); begun = up s.begun 1 }
 
-abbrev pub name_at : Tok → ℕ → Name
+abbrev pub name_at : TextToken → ℕ → Name
 name_at t first = record { text = t.text; at = t.at; first = first; count = None }
 
-abbrev pub add_result : Tok → State → State
+abbrev pub add_result : TextToken → State → State
 add_result t s = record s { op = record (s.op) { results = s.op.results ++ name_at t s.next ∷ [] }; next = number_up s.next 1 }
 
 -- the names that were held are results of the next operation
-abbrev pub add_results : List Tok → State → State
+abbrev pub add_results : List TextToken → State → State
 add_results [] s = s
 add_results (x ∷ xs) s = add_results xs (add_result x s)
 
@@ -381,14 +381,14 @@ add_block_param s = record s {
   counted = up s.counted 1;
 }
 
-abbrev pub add_operand : Tok → State → State
+abbrev pub add_operand : TextToken → State → State
 add_operand t s = record s {
   op = record (s.op) { operands = s.op.operands ++ resolved s.visible t.text ∷ [] };
   used = t.text;
   counted = up s.counted 1;
 }
 
-abbrev pub add_operands : List Tok → State → State
+abbrev pub add_operands : List TextToken → State → State
 add_operands [] s = s
 add_operands (x ∷ xs) s = add_operands xs (add_operand x s)
 
@@ -448,7 +448,7 @@ abbrev pub with_attr : Attr → State → State
 with_attr a s = with_op s (record (s.op) { attr = a })
 
 -- the number behind `#`
-abbrev pub index_of : Tok → Option ℕ
+abbrev pub index_of : TextToken → Option ℕ
 index_of t = number_of (record { kind = kind.Digits; text = drop 1 t.text; at = t.at; joined = false })
 
 -- how many of n operands stand in none of these groups
@@ -457,7 +457,7 @@ ungrouped n [] = n
 ungrouped n (g ∷ gs) = ungrouped (n - g) gs
 
 -- the literal that a token writes
-abbrev pub literal : Bool → Tok → Attr
+abbrev pub literal : Bool → TextToken → Attr
 literal negative t = attr.Literal negative (unwrap_or (number_of t) 0)
 
 -- what an act makes of the state

@@ -21,7 +21,7 @@ use Rattle.ir_forms.specs.declared.types.Dim.TheVariants.{Fixed, Dynamic}
 use Rattle.ir_forms.specs.declared.types.MemTy.{MemTy}
 use Rattle.module_grammar.specs.declared.types.DimSoFar.{DimSoFar}
 use Rattle.module_grammar.specs.declared.types.DimSoFar.TheVariants as so_far
-use Rattle.module_grammar.specs.declared.state.Tok.{Tok}
+use Rattle.module_grammar.specs.declared.state.TextToken.{TextToken}
 use Rattle.module_grammar.specs.declared.symbols.Keyword.{Keyword}
 use Rattle.module_grammar.specs.declared.symbols.Keyword.TheVariants as key
 
@@ -76,7 +76,7 @@ abbrev pub below : ℕ → Option ℕ
 below n = if nat_lt n 18446744073709551616 then Some n else None
 
 -- the number that digits or hexadecimal digits write, where it is below 2^64
-unfoldable pub number_of : Tok → Option ℕ
+unfoldable pub number_of : TextToken → Option ℕ
 number_of t = below (number_of_kind t.kind t.text)
 
 abbrev pub is_up_to : ℕ → Option ℕ → Bool
@@ -153,7 +153,7 @@ type_of_kind kind.Memref text = option_map (λ m. ty.Memref m) (memref_type text
 type_of_kind _ text = None
 
 -- the type that one token writes
-unfoldable pub type_of : Tok → Option Ty
+unfoldable pub type_of : TextToken → Option Ty
 type_of t = type_of_kind t.kind t.text
 
 abbrev pub payload_of_type : Option Ty → Option ValTy
@@ -163,7 +163,7 @@ payload_of_type (Some (ty.Memref m)) = Some (val.Memref m)
 payload_of_type _ = None
 
 -- what an `!async.value` holds by one token
-abbrev pub payload_of : Tok → Option ValTy
+abbrev pub payload_of : TextToken → Option ValTy
 payload_of t = payload_of_type (type_of t)
 
 abbrev pub is_memref_type : Option Ty → Bool
@@ -185,7 +185,7 @@ predicates =
     (codes "eq", pred.Eq) ∷ (codes "ne", pred.Ne) ∷ (codes "slt", pred.Slt) ∷ (codes "sle", pred.Sle) ∷ (codes "sgt", pred.Sgt)
     ∷ (codes "sge", pred.Sge) ∷ (codes "ult", pred.Ult) ∷ (codes "ule", pred.Ule) ∷ (codes "ugt", pred.Ugt) ∷ (codes "uge", pred.Uge) ∷ []
 
-abbrev pub predicate_of : Tok → Option Pred
+abbrev pub predicate_of : TextToken → Option Pred
 predicate_of t = among predicates t.text
 
 -- the byte that two hexadecimal digits write
@@ -216,5 +216,5 @@ symbol_of_kind kind.SymbolText text = string_of (drop 1 text)
 symbol_of_kind _ text = drop 1 text
 
 -- the bytes of a symbol, without `@` and quotes
-abbrev pub symbol_of : Tok → List ℕ
+abbrev pub symbol_of : TextToken → List ℕ
 symbol_of t = symbol_of_kind t.kind t.text

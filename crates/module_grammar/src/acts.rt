@@ -10,7 +10,7 @@ use crate::counting::{as_number, number_up, up};
 use crate::names::{resolve, resolve_at, values_of, with_names};
 use crate::parts::{add_else, ungrouped};
 use crate::room::{add, join};
-use crate::state::{Entry, OpenBody, OpenFunc, OpenOp, Param, State, Tok};
+use crate::state::{DictEntry, OpenBody, OpenFunc, OpenOp, Param, State, TextToken};
 use ir_forms::{Attr, Op, OpKind, Ty, ValueNo};
 use lists::Items;
 use name_lists::NameList;
@@ -150,7 +150,11 @@ impl<'a> State<'a> {
     }
 
     /// The token names the next result.
-    pub(crate) fn add_result(&mut self, alloc: Global, token: &Tok<'a>) -> Result<(), AllocError>
+    pub(crate) fn add_result(
+        &mut self,
+        alloc: Global,
+        token: &TextToken<'a>,
+    ) -> Result<(), AllocError>
         ensures { OnOk result (self.new ≡ add_result token.now self.old) }
     {
         self.op.results.push(alloc, token.name(self.next))?;
@@ -173,7 +177,7 @@ impl<'a> State<'a> {
     }
 
     /// The token is a use of the next operand.
-    pub(crate) fn add_operand(&mut self, token: &Tok<'a>) -> Result<(), AllocError>
+    pub(crate) fn add_operand(&mut self, token: &TextToken<'a>) -> Result<(), AllocError>
         ensures { OnOk result (self.new ≡ add_operand token.now self.old) }
     {
         let value = resolve(&self.visible, token.text.as_slice());
@@ -271,22 +275,22 @@ impl<'a> State<'a> {
     pub(crate) fn begin_dict(&mut self)
         ensures { self.new ≡ does act.BeginDict self.old }
     {
-        self.entry = Entry::Fresh;
+        self.entry = DictEntry::Fresh;
         self.entry_at = None;
     }
 
     pub(crate) fn other_entry(&mut self)
         ensures { self.new ≡ does act.OtherEntry self.old }
     {
-        self.entry = Entry::Other;
+        self.entry = DictEntry::Other;
     }
 
     pub(crate) fn end_entry(&mut self)
         ensures { self.new ≡ does act.EndEntry self.old }
     {
-        if let Entry::Whole { number, at: _ } = self.entry {
+        if let DictEntry::Whole { number, at: _ } = self.entry {
             self.entry_at = number;
         }
-        self.entry = Entry::Fresh;
+        self.entry = DictEntry::Fresh;
     }
 }

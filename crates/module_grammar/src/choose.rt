@@ -5,7 +5,7 @@ ghost use Rattle.module_grammar.specs.Engine.{first_line, line_at};
 ghost use Rattle.module_grammar.specs.Rules.{grammar, may_end, ends, form_chosen};
 
 use crate::rows::rows;
-use crate::state::{State, Tok};
+use crate::state::{State, TextToken};
 use crate::symbols::{Act, Class, Rule, Symbol};
 use crate::words::kind_at;
 use ir_forms::{Level, OpKind};
@@ -37,7 +37,7 @@ fn ends() -> &'static [Symbol]
 /// The line of a form whose name the token is.
 fn form_choice(
     level: Level,
-    token: &Tok,
+    token: &TextToken,
     before: &'static [Symbol],
     after: &'static [Symbol],
 ) -> Option<Choice>
@@ -78,7 +78,7 @@ pub fn may_end(rule: Rule) -> bool
 
 impl<'a> State<'a> {
     /// The line of the rule that the token begins by the name of an operation.
-    fn form_at(&self, level: Level, rule: Rule, token: &Tok) -> Option<Choice>
+    fn form_at(&self, level: Level, rule: Rule, token: &TextToken) -> Option<Choice>
         ensures { IsChosen (first_line (grammar level) (form_lines level rule) self.now token.now) result }
     {
         match rule {
@@ -94,7 +94,7 @@ impl<'a> State<'a> {
         alloc: Global,
         level: Level,
         rule: Rule,
-        token: &Tok,
+        token: &TextToken,
     ) -> Result<Option<Choice>, AllocError>
         ensures { IfOk result (λ choice. IsChosen (line_at (grammar level) rule self.now token.now) choice) }
     {

@@ -5,7 +5,7 @@ ghost use Rattle.module_grammar.specs.Rules.{is_of, allows, none_named, are_dist
 ghost use Rattle.module_grammar.specs.State.{is_named, param_names, is_wide};
 
 use crate::names::is_named;
-use crate::state::{Entry, Name, Param, State, Tok};
+use crate::state::{DictEntry, Name, Param, State, TextToken};
 use crate::symbols::{Class, Keyword};
 use crate::words::{is_name_of, word_of};
 use ir_forms::{Ty, Width};
@@ -64,7 +64,7 @@ fn is_index(text: &[u8]) -> bool
 
 /// Whether the token is a type of this class, which is written by one token.
 #[tactic(auto, unfolding(crate::specs::Rules::is_of))]
-fn is_type_of(alloc: Global, class: Class, token: &Tok) -> Result<bool, AllocError>
+fn is_type_of(alloc: Global, class: Class, token: &TextToken) -> Result<bool, AllocError>
     requires { is_one_type class ≡ true }
     ensures { IfOk result (λ yes. yes ≡ is_of class token.now) }
 {
@@ -86,7 +86,7 @@ fn is_type_of(alloc: Global, class: Class, token: &Tok) -> Result<bool, AllocErr
 }
 
 /// Whether none of the names is that of one of the tokens.
-fn none_named(names: &NameList<Name>, tokens: &[Tok]) -> bool
+fn none_named(names: &NameList<Name>, tokens: &[TextToken]) -> bool
     ensures { result ≡ none_named names.now tokens.now }
 {
     for token in tokens {
@@ -98,7 +98,7 @@ fn none_named(names: &NameList<Name>, tokens: &[Tok]) -> bool
 }
 
 /// Whether no text stands twice among the tokens.
-fn are_distinct(tokens: &NameList<Tok>) -> bool
+fn are_distinct(tokens: &NameList<TextToken>) -> bool
     ensures { result ≡ are_distinct tokens.now }
 {
     let mut at = 0;
@@ -119,17 +119,17 @@ fn is_param(params: &NameList<Param>, text: &[u8]) -> bool
     params.first(text).is_some()
 }
 
-impl Entry {
+impl DictEntry {
     /// Whether the entry is whole, and its number isn't below 2^32.
     fn is_wide(self) -> bool
         ensures { result ≡ is_wide self }
     {
         match self {
-            Entry::Whole {
+            DictEntry::Whole {
                 number: Some(number),
                 at: _,
             } => number >= 4_294_967_296,
-            Entry::Whole {
+            DictEntry::Whole {
                 number: None,
                 at: _,
             } => true,
@@ -140,7 +140,7 @@ impl Entry {
 
 /// Whether the token is of the class, whatever the state.
 #[tactic(auto, unfolding(crate::specs::Rules::is_of))]
-pub fn is_of(alloc: Global, class: Class, token: &Tok) -> Result<bool, AllocError>
+pub fn is_of(alloc: Global, class: Class, token: &TextToken) -> Result<bool, AllocError>
     ensures { IfOk result (λ yes. yes ≡ is_of class token.now) }
 {
     let kind = token.kind;
@@ -202,7 +202,7 @@ impl<'a> State<'a> {
 
     /// What the state asks of a token of the class besides.
     #[tactic(auto, unfolding(crate::specs::Rules::allows), using(crate::proofs::Named::named_either))]
-    pub fn allows(&self, class: Class, token: &Tok) -> bool
+    pub fn allows(&self, class: Class, token: &TextToken) -> bool
         ensures { result ≡ allows class self.now token.now }
     {
         let text = token.text.as_slice();
@@ -217,7 +217,12 @@ impl<'a> State<'a> {
     }
 
     /// Whether the token is of the class here.
-    pub fn accepts(&self, alloc: Global, class: Class, token: &Tok) -> Result<bool, AllocError>
+    pub fn accepts(
+        &self,
+        alloc: Global,
+        class: Class,
+        token: &TextToken,
+    ) -> Result<bool, AllocError>
         ensures { IfOk result (λ yes. yes ≡ (is_of class token.now && allows class self.now token.now)) }
     {
         let of_class = is_of(alloc, class, token)?;

@@ -1,56 +1,11 @@
-//! Exact copies of types, names and tokens.
+//! Copies of lists of types, names and tokens.
 ghost use Rattle.std.specs.Prelude.{◌≡◌, ◌++◌, IfOk, OnOk};
 ghost use Rattle.module_grammar.specs.State.{name_at};
 
-use crate::state::{Name, Tok};
-use ir_forms::{MemTy, Ty, ValTy};
+use crate::state::{Name, TextToken};
+use ir_forms::{Ty, copy_type};
 use lists::Items;
 use std::alloc::{AllocError, Global};
-
-fn copy_memref(alloc: Global, memref: &MemTy) -> Result<MemTy, AllocError>
-    ensures { IfOk result (λ copy. copy ≡ memref.now) }
-{
-    Ok(MemTy {
-        elem: memref.elem,
-        dims: Items::from_slice(alloc, memref.dims.as_slice())?,
-    })
-}
-
-pub fn copy_payload(alloc: Global, payload: &ValTy) -> Result<ValTy, AllocError>
-    ensures { IfOk result (λ copy. copy ≡ payload.now) }
-{
-    match payload {
-        ValTy::Int(width) => Ok(ValTy::Int(*width)),
-        ValTy::Index => Ok(ValTy::Index),
-        ValTy::Memref(memref) => {
-            let memref = copy_memref(alloc, memref)?;
-            Ok(ValTy::Memref(memref))
-        }
-    }
-}
-
-pub fn copy_type(alloc: Global, ty: &Ty) -> Result<Ty, AllocError>
-    ensures { IfOk result (λ copy. copy ≡ ty.now) }
-{
-    match ty {
-        Ty::Int(width) => Ok(Ty::Int(*width)),
-        Ty::Index => Ok(Ty::Index),
-        Ty::Memref(memref) => {
-            let memref = copy_memref(alloc, memref)?;
-            Ok(Ty::Memref(memref))
-        }
-        Ty::Token => Ok(Ty::Token),
-        Ty::Value(payload) => {
-            let payload = copy_payload(alloc, payload)?;
-            Ok(Ty::Value(payload))
-        }
-        Ty::Group => Ok(Ty::Group),
-        Ty::CoroId => Ok(Ty::CoroId),
-        Ty::CoroHandle => Ok(Ty::CoroHandle),
-        Ty::CoroState => Ok(Ty::CoroState),
-        Ty::Untyped => Ok(Ty::Untyped),
-    }
-}
 
 /// Adds copies of the types at the end.
 fn push_copies(alloc: Global, copies: &mut Vec<Ty>, types: &[Ty]) -> Result<(), AllocError>
@@ -72,11 +27,11 @@ pub fn copied_twice(alloc: Global, types: &[Ty]) -> Result<Items<Ty>, AllocError
     Ok(Items::from_vec(copies))
 }
 
-impl<'a> Tok<'a> {
-    pub fn copy(&self) -> Tok<'a>
+impl<'a> TextToken<'a> {
+    pub fn copy(&self) -> TextToken<'a>
         ensures { result ≡ self.now }
     {
-        Tok {
+        TextToken {
             kind: self.kind,
             text: self.text.copy(),
             at: self.at,

@@ -37,6 +37,6 @@ pub use faults::{GrammarFault, Limited, TextLimits};
 pub use laws::{accepts_exactly, names_first_fault};
 pub use reader::read;
 pub use sought::Sought;
-pub use state::{Entry, Name, OpenBody, OpenFunc, OpenOp, Outer, Param, State, Tok};
+pub use state::{DictEntry, Name, OpenBody, OpenFunc, OpenOp, Outer, Param, State, TextToken};
 pub use symbols::{Act, Class, Keyword, Rule, Symbol};
 pub use types::DimSoFar;

@@ -6,17 +6,17 @@ use crate::classes::is_byte;
 use crate::faults::{GrammarFault, Limited, TextLimits};
 use crate::numbers::is_number;
 use crate::places::{last_place, name_past, place_in};
-use crate::state::{State, Tok};
+use crate::state::{State, TextToken};
 
 /// Where an operation begins with which the token ends: at the first of the names held, or here.
-fn op_place(before: &State, token: &Tok) -> u32
+fn op_place(before: &State, token: &TextToken) -> u32
     ensures { result ≡ op_place before.now token.now }
 {
     place_in(before.held.as_slice(), 0, token.at)
 }
 
 /// The place of the values' name that passes the limit.
-fn value_place(limit: u32, before: &State, token: &Tok) -> u32
+fn value_place(limit: u32, before: &State, token: &TextToken) -> u32
     ensures { result ≡ value_place limit before.now token.now }
 {
     let room = u64::from(limit).saturating_sub(before.counted);
@@ -42,7 +42,12 @@ impl TextLimits {
     }
 
     /// The limit that a token passes, which leads from one state to the other.
-    pub(crate) fn passed(&self, before: &State, now: &State, token: &Tok) -> Option<GrammarFault>
+    pub(crate) fn passed(
+        &self,
+        before: &State,
+        now: &State,
+        token: &TextToken,
+    ) -> Option<GrammarFault>
         ensures { result ≡ limit_passed self.now before.now now.now token.now }
     {
         let (which, at) = if now.begun > u64::from(self.operations) {

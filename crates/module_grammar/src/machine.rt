@@ -13,7 +13,7 @@ use crate::choose::{Choice, may_end};
 use crate::faults::{GrammarFault, TextLimits};
 use crate::forms::form;
 use crate::refusal::Spot;
-use crate::state::{Entry, OpenBody, OpenFunc, OpenOp, State, Tok};
+use crate::state::{DictEntry, OpenBody, OpenFunc, OpenOp, State, TextToken};
 use crate::symbols::{Act, Class, Rule, Symbol};
 use ir_forms::{Level, Module, OpKind};
 use lists::Items;
@@ -72,7 +72,7 @@ impl<'a> State<'a> {
         ensures { result ≡ at_start }
     {
         State {
-            last: Tok {
+            last: TextToken {
                 kind: TokenKind::End,
                 text: Bytes::new(&[]),
                 at: 0,
@@ -90,7 +90,7 @@ impl<'a> State<'a> {
             body: OpenBody::blank(alloc),
             outer: Items::new(alloc),
             held: NameList::new(alloc),
-            entry: Entry::Fresh,
+            entry: DictEntry::Fresh,
             entry_at: None,
             func: OpenFunc::blank(alloc, 0),
             funcs: Items::new(alloc),
@@ -124,7 +124,12 @@ impl<'a> Machine<'a> {
 
     /// Takes a token. Where it doesn't fit the machine is no longer of use.
     #[tactic(auto, using(crate::proofs::Stacks::reverse_pushed))]
-    pub fn step(&mut self, alloc: Global, level: Level, token: &Tok<'a>) -> Result<bool, AllocError>
+    pub fn step(
+        &mut self,
+        alloc: Global,
+        level: Level,
+        token: &TextToken<'a>,
+    ) -> Result<bool, AllocError>
         ensures { IfOk result (λ went. MatchBool went (step (grammar level) (reverse self.old.stack) self.old.state token.now ≡ Some (place_of self.new)) (step (grammar level) (reverse self.old.stack) self.old.state token.now ≡ None)) }
     {
         while let Some(symbol) = self.stack.pop() {
@@ -195,8 +200,8 @@ impl<'a> Machine<'a> {
         alloc: Global,
         level: Level,
         limits: &TextLimits,
-        token: &Tok<'a>,
-        rest: &[Tok<'a>],
+        token: &TextToken<'a>,
+        rest: &[TextToken<'a>],
     ) -> Result<GrammarFault, AllocError>
         ensures { IfOk result (λ fault. fault ≡ refusal limits.now level (reverse self.now.stack) self.now.state token.now rest.now) }
     {

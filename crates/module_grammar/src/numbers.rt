@@ -3,7 +3,7 @@ ghost use Rattle.std.specs.Prelude.{◌≡◌, ◌⊎◌, length, drop};
 ghost use Rattle.module_grammar.specs.Tokens.{number_of, number_in, number_of_kind, digit_of, below, is_number_kind, is_digit, all_digits, is_index};
 ghost use Rattle.module_grammar.specs.State.{index_of};
 
-use crate::state::Tok;
+use crate::state::TextToken;
 use mlir_lex::TokenKind;
 
 /// Whether tokens of the kind are numbers.
@@ -42,7 +42,7 @@ fn number_in(base: u64, digits: &[u8]) -> Option<u64>
     Some(number)
 }
 
-impl<'a> Tok<'a> {
+impl<'a> TextToken<'a> {
     /// The number that digits or hexadecimal digits write, where it is below 2^64.
     #[tactic(auto, unfolding(crate::specs::Tokens::number_of))]
     pub fn number(&self) -> Option<u64>

@@ -3,9 +3,8 @@ ghost use Rattle.std.specs.Prelude.{◌≡◌, length, IfOk, OnOk};
 ghost use Rattle.module_grammar.specs.State.{does, typed_by, is_untyped};
 ghost use Rattle.module_grammar.specs.declared.symbols.Act.TheVariants as act;
 
-use crate::copies::copy_type;
 use crate::state::{OpenOp, Param, State};
-use ir_forms::Ty;
+use ir_forms::{Ty, copy_type};
 use name_lists::NameList;
 use std::alloc::{AllocError, Global};
 use std::mem;

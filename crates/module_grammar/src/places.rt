@@ -2,10 +2,10 @@
 ghost use Rattle.std.specs.Prelude.{◌≡◌, None};
 ghost use Rattle.module_grammar.specs.Faults.{place_in, name_past, or_at, last_place};
 
-use crate::state::{Name, Tok};
+use crate::state::{Name, TextToken};
 
 /// The place of the token of this number or of the last, or `at` where there is none.
-pub fn place_in(tokens: &[Tok], number: u64, at: u32) -> u32
+pub fn place_in(tokens: &[TextToken], number: u64, at: u32) -> u32
     ensures { result ≡ place_in tokens.now number at }
 {
     let mut left = number;

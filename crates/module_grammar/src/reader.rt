@@ -10,7 +10,7 @@ ghost use Rattle.module_grammar.specs.Asked.{told};
 
 use crate::faults::{GrammarFault, TextLimits};
 use crate::machine::Machine;
-use crate::state::{State, Tok};
+use crate::state::{State, TextToken};
 use ir_forms::{Level, Module};
 use std::alloc::{AllocError, Global};
 
@@ -18,7 +18,7 @@ use std::alloc::{AllocError, Global};
 fn reach<'a>(
     alloc: Global,
     level: Level,
-    tokens: &[Tok<'a>],
+    tokens: &[TextToken<'a>],
     machine: &mut Machine<'a>,
 ) -> Result<(), AllocError>
     requires start { IsStart machine.old }
@@ -39,13 +39,13 @@ fn reach<'a>(
 pub(crate) enum Asked<'s, 'a> {
     /// The fault of a token that doesn't fit, before the rest.
     Refusal {
-        token: &'s Tok<'a>,
-        rest: &'s [Tok<'a>],
+        token: &'s TextToken<'a>,
+        rest: &'s [TextToken<'a>],
     },
     /// The limit that a token passes, by which the state is led to `now`.
     Limit {
         now: &'s State<'a>,
-        token: &'s Tok<'a>,
+        token: &'s TextToken<'a>,
     },
     /// The limit that is passed at the end, by which the state is led to `now`.
     LastLimit {
@@ -58,7 +58,7 @@ fn fault_over<'a>(
     alloc: Global,
     level: Level,
     limits: &TextLimits,
-    tokens: &[Tok<'a>],
+    tokens: &[TextToken<'a>],
     asked: Asked<'_, 'a>,
     machine: &mut Machine<'a>,
 ) -> Result<Option<GrammarFault>, AllocError>
@@ -83,7 +83,7 @@ fn fault_behind<'a>(
     alloc: Global,
     level: Level,
     limits: &TextLimits,
-    tokens: &[Tok<'a>],
+    tokens: &[TextToken<'a>],
     asked: Asked<'_, 'a>,
 ) -> Result<Option<GrammarFault>, AllocError>
     requires { IsSome (reached level whole at_start tokens.now) }
@@ -98,9 +98,9 @@ fn refusal_behind<'a>(
     alloc: Global,
     level: Level,
     limits: &TextLimits,
-    tokens: &[Tok<'a>],
-    token: &Tok<'a>,
-    rest: &[Tok<'a>],
+    tokens: &[TextToken<'a>],
+    token: &TextToken<'a>,
+    rest: &[TextToken<'a>],
 ) -> Result<GrammarFault, AllocError>
     requires { IsSome (reached level whole at_start tokens.now) }
     ensures { IfOk result (λ fault. option_map (λ place. refusal limits.now level place.left place.state token.now rest.now) (reached level whole at_start tokens.now) ≡ Some fault) }
@@ -117,8 +117,8 @@ fn limit_behind<'a>(
     alloc: Global,
     level: Level,
     limits: &TextLimits,
-    tokens: &[Tok<'a>],
-    token: &Tok<'a>,
+    tokens: &[TextToken<'a>],
+    token: &TextToken<'a>,
     now: &State<'a>,
 ) -> Result<Option<GrammarFault>, AllocError>
     requires { IsSome (reached level whole at_start tokens.now) }
@@ -137,7 +137,7 @@ fn limit_at_end<'a>(
     alloc: Global,
     level: Level,
     limits: &TextLimits,
-    tokens: &[Tok<'a>],
+    tokens: &[TextToken<'a>],
     now: &State<'a>,
 ) -> Result<Option<GrammarFault>, AllocError>
     requires { IsSome (reached level whole at_start tokens.now) }
@@ -155,9 +155,9 @@ fn take<'a>(
     alloc: Global,
     level: Level,
     limits: &TextLimits,
-    tokens: &[Tok<'a>],
-    token: &Tok<'a>,
-    rest: &[Tok<'a>],
+    tokens: &[TextToken<'a>],
+    token: &TextToken<'a>,
+    rest: &[TextToken<'a>],
     machine: &mut Machine<'a>,
 ) -> Result<Option<GrammarFault>, AllocError>
     requires { reached level whole at_start tokens.now ≡ Some (place_of machine.old) }
@@ -177,7 +177,7 @@ fn finish<'a>(
     alloc: Global,
     level: Level,
     limits: &TextLimits,
-    tokens: &[Tok<'a>],
+    tokens: &[TextToken<'a>],
     machine: &mut Machine<'a>,
 ) -> Result<Result<Module, GrammarFault>, AllocError>
     requires { reached level whole at_start tokens.now ≡ Some (place_of machine.old) }
@@ -198,7 +198,7 @@ fn read_from<'a>(
     alloc: Global,
     level: Level,
     limits: &TextLimits,
-    tokens: &[Tok<'a>],
+    tokens: &[TextToken<'a>],
     machine: &mut Machine<'a>,
 ) -> Result<Result<Module, GrammarFault>, AllocError>
     requires { IsStart machine.old }
@@ -228,7 +228,7 @@ pub fn read<'a>(
     alloc: Global,
     level: Level,
     limits: &TextLimits,
-    tokens: &[Tok<'a>],
+    tokens: &[TextToken<'a>],
 ) -> Result<Result<Module, GrammarFault>, AllocError>
     ensures { IfOk result (λ answer. answer ≡ parsed limits.now level tokens.now) }
 {

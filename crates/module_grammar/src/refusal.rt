@@ -11,7 +11,7 @@ use crate::names::with_names;
 use crate::numbers::is_number;
 use crate::places::{last_place, name_past, place_in};
 use crate::sought::Sought;
-use crate::state::{Entry, Name, State, Tok};
+use crate::state::{DictEntry, Name, State, TextToken};
 use crate::symbols::{Act, Class, Rule, Symbol};
 use crate::words::kind_of;
 use ir_forms::Level;
@@ -29,7 +29,7 @@ fn has_row(level: Level, text: &[u8]) -> bool
 }
 
 /// Whether the token begins a type.
-fn begins_type(alloc: Global, token: &Tok) -> Result<bool, AllocError>
+fn begins_type(alloc: Global, token: &TextToken) -> Result<bool, AllocError>
     ensures { IfOk result (λ yes. yes ≡ begins_type token.now) }
 {
     let is_type = token.ty(alloc)?.is_some();
@@ -61,7 +61,7 @@ fn counts_values(left: &[Symbol]) -> bool
 }
 
 /// How many values a name has that begins an operation, where these tokens follow it.
-fn values_before(rest: &[Tok]) -> u64
+fn values_before(rest: &[TextToken]) -> u64
     ensures { result ≡ values_before rest.now }
 {
     if rest.len() >= 2 && is_byte(58, rest[0].kind) && is_number(rest[1].kind) {
@@ -71,17 +71,17 @@ fn values_before(rest: &[Tok]) -> u64
     }
 }
 
-impl Entry {
+impl DictEntry {
     /// The fault of the number of a whole entry that isn't below 2^32.
     fn wide_fault(self) -> Option<GrammarFault>
         ensures { result ≡ wide_fault self }
     {
         match self {
-            Entry::Whole {
+            DictEntry::Whole {
                 number: Some(number),
                 at,
             } if number >= 4_294_967_296 => { Some(GrammarFault::Syntax { at }) }
-            Entry::Whole { number: None, at } => Some(GrammarFault::WideNumber { at }),
+            DictEntry::Whole { number: None, at } => Some(GrammarFault::WideNumber { at }),
             _ => None,
         }
     }
@@ -93,8 +93,8 @@ pub(crate) struct Spot<'s, 'a> {
     pub(crate) level: Level,
     pub(crate) left: &'s [Symbol],
     pub(crate) state: &'s State<'a>,
-    pub(crate) token: &'s Tok<'a>,
-    pub(crate) rest: &'s [Tok<'a>],
+    pub(crate) token: &'s TextToken<'a>,
+    pub(crate) rest: &'s [TextToken<'a>],
 }
 
 impl<'s, 'a> Spot<'s, 'a> {

@@ -4,11 +4,10 @@ ghost use Rattle.module_grammar.specs.State.{does, region_of, made, body_ops, le
 ghost use Rattle.module_grammar.specs.Steps.{func_of, gone_out, region_joined, ops_ended, terminator_counted};
 ghost use Rattle.module_grammar.specs.declared.symbols.Act.TheVariants as act;
 
-use crate::copies::copy_type;
 use crate::counting::{as_number, up};
 use crate::room::add;
 use crate::state::{Name, OpenBody, OpenFunc, OpenOp, Outer, Param, State};
-use ir_forms::{Attr, Func, Op, OpKind, Region, Ty, ValueNo};
+use ir_forms::{Attr, Func, Op, OpKind, Region, Ty, ValueNo, copy_type};
 use lists::Items;
 use name_lists::NameList;
 use std::alloc::{AllocError, Global};

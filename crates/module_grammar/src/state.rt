@@ -7,14 +7,14 @@ use name_lists::{HasName, NameList};
 
 /// A token: its kind, its bytes, the place of the first of them, and whether it follows the token before at once.
 #[derive(Drop)]
-pub struct Tok<'a> {
+pub struct TextToken<'a> {
     pub kind: TokenKind,
     pub text: Bytes<'a>,
     pub at: u32,
     pub joined: bool,
 }
 
-impl<'a> HasName for Tok<'a> {
+impl<'a> HasName for TextToken<'a> {
     ghost text = { λ t. t.text };
 
     fn name(&self) -> &[u8] {
@@ -97,7 +97,7 @@ pub struct OpenFunc<'a> {
 
 /// How far an entry of a dictionary is `aio.at = N : i64`, with N, which is none where it isn't below 2^64, and its place.
 #[derive(Clone, Copy)]
-pub enum Entry {
+pub enum DictEntry {
     Fresh,
     Keyed,
     Equated,
@@ -111,7 +111,7 @@ pub enum Entry {
 #[derive(Drop)]
 pub struct State<'a> {
     /// The last token.
-    pub last: Tok<'a>,
+    pub last: TextToken<'a>,
     /// The types read since the last act that took them.
     pub read: Items<Ty>,
     /// The names that are visible, the newest last.
@@ -135,9 +135,9 @@ pub struct State<'a> {
     /// The operations in whose regions the text stands, the innermost last.
     pub outer: Items<Outer<'a>>,
     /// Names that may be operands or the next operation's results.
-    pub held: NameList<Tok<'a>>,
+    pub held: NameList<TextToken<'a>>,
     /// How far the entry of a dictionary is read.
-    pub entry: Entry,
+    pub entry: DictEntry,
     /// The number of the last whole entry of a dictionary.
     pub entry_at: Option<u64>,
     /// The function that is read.

@@ -3,7 +3,7 @@ ghost use Rattle.std.specs.Prelude.{◌≡◌, false, None, IfOk};
 ghost use Rattle.module_grammar.specs.Tokens.{hex_byte, digit_of, short_escape, said, string_of, symbol_of};
 
 use crate::numbers::digit_of;
-use crate::state::Tok;
+use crate::state::TextToken;
 use lists::Items;
 use mlir_lex::TokenKind;
 use std::alloc::{AllocError, Global};
@@ -63,7 +63,7 @@ fn said(alloc: Global, text: &[u8]) -> Result<Items<u8>, AllocError>
     Ok(bytes)
 }
 
-impl<'a> Tok<'a> {
+impl<'a> TextToken<'a> {
     /// What a string says.
     pub fn string(&self, alloc: Global) -> Result<Items<u8>, AllocError>
         ensures { IfOk result (λ bytes. bytes ≡ string_of self.now.text) }

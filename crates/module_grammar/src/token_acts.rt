@@ -4,12 +4,11 @@ ghost use Rattle.module_grammar.specs.State.{does, begin_op, end_op, add_operand
 ghost use Rattle.module_grammar.specs.Steps.{option_list};
 ghost use Rattle.module_grammar.specs.declared.symbols.Act.TheVariants as act;
 
-use crate::copies::{copy_payload, copy_type};
 use crate::counting::number_up;
 use crate::names::resolve_at;
 use crate::room::add;
-use crate::state::{Entry, Name, Param, State, Tok};
-use ir_forms::{Attr, CellTy, NumTy, Pred, Ty, ValTy, Width};
+use crate::state::{DictEntry, Name, Param, State, TextToken};
+use ir_forms::{Attr, CellTy, NumTy, Pred, Ty, ValTy, Width, copy_payload, copy_type};
 use lists::Items;
 use mlir_lex::TokenKind;
 use name_lists::NameList;
@@ -90,26 +89,29 @@ fn first_element(types: &[Ty]) -> Ty
     }
 }
 
-impl Entry {
+impl DictEntry {
     /// The entry with one more token, which is no bracket and no comma.
-    fn after(self, token: &Tok) -> Entry
+    fn after(self, token: &TextToken) -> DictEntry
         ensures { result ≡ entry_after self token.now }
     {
         let text = token.text.as_slice();
         match self {
-            Entry::Fresh if text == b"aio.at".as_slice() => Entry::Keyed,
-            Entry::Keyed if text == b"=".as_slice() => Entry::Equated,
-            Entry::Equated if matches!(token.kind, TokenKind::Digits | TokenKind::Hex) =>
-                Entry::Numbered {
+            DictEntry::Fresh if text == b"aio.at".as_slice() => DictEntry::Keyed,
+            DictEntry::Keyed if text == b"=".as_slice() => DictEntry::Equated,
+            DictEntry::Equated if matches!(token.kind, TokenKind::Digits | TokenKind::Hex) =>
+                DictEntry::Numbered {
                     number: token.number(),
                     at: token.at,
                 },
-            Entry::Numbered { number, at } if text == b":".as_slice() => Entry::Typed {
+            DictEntry::Numbered { number, at } if text == b":".as_slice() => DictEntry::Typed {
                 number,
                 at,
             },
-            Entry::Typed { number, at } if text == b"i64".as_slice() => Entry::Whole { number, at },
-            _ => Entry::Other,
+            DictEntry::Typed { number, at } if text == b"i64".as_slice() => DictEntry::Whole {
+                number,
+                at,
+            },
+            _ => DictEntry::Other,
         }
     }
 }
@@ -117,7 +119,7 @@ impl Entry {
 #[tactic(auto, unfolding(crate::specs::State::does))]
 impl<'a> State<'a> {
     /// The tokens are uses of the next operands.
-    fn add_operands(&mut self, tokens: &[Tok<'a>]) -> Result<(), AllocError>
+    fn add_operands(&mut self, tokens: &[TextToken<'a>]) -> Result<(), AllocError>
         ensures { OnOk result (self.new ≡ add_operands tokens.now self.old) }
     {
         for token in tokens {
@@ -127,7 +129,7 @@ impl<'a> State<'a> {
     }
 
     /// The tokens name the next results.
-    fn add_results(&mut self, alloc: Global, tokens: &[Tok<'a>]) -> Result<(), AllocError>
+    fn add_results(&mut self, alloc: Global, tokens: &[TextToken<'a>]) -> Result<(), AllocError>
         ensures { OnOk result (self.new ≡ add_results tokens.now self.old) }
     {
         for token in tokens {
@@ -137,7 +139,11 @@ impl<'a> State<'a> {
     }
 
     /// The operation is over, and the tokens name the results of the next.
-    fn end_with_results(&mut self, alloc: Global, tokens: &[Tok<'a>]) -> Result<(), AllocError>
+    fn end_with_results(
+        &mut self,
+        alloc: Global,
+        tokens: &[TextToken<'a>],
+    ) -> Result<(), AllocError>
         ensures { OnOk result (self.new ≡ add_results tokens.now (begin_op (end_op self.old))) }
     {
         self.end_op(alloc)?;

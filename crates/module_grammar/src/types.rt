@@ -3,7 +3,7 @@ ghost use Rattle.std.specs.Prelude.{◌≡◌, [], not, filter, IfOk};
 ghost use Rattle.module_grammar.specs.Tokens.{among, widths, cells, bang_types, is_blank, shaped, memref_of, memref_type, number_type, type_of_kind, type_of, payload_of_type, payload_of, grown};
 ghost use Rattle.module_grammar.specs.declared.types.DimSoFar.TheVariants as so_far;
 
-use crate::state::Tok;
+use crate::state::TextToken;
 use crate::words::among;
 use ir_forms::{CellTy, Dim, MemTy, NumTy, Ty, ValTy, Width};
 use lists::Items;
@@ -174,7 +174,7 @@ fn payload_of_type(ty: Option<Ty>) -> Option<ValTy>
     }
 }
 
-impl<'a> Tok<'a> {
+impl<'a> TextToken<'a> {
     /// The type that the token writes alone.
     #[tactic(auto, unfolding(crate::specs::Tokens::type_of))]
     pub fn ty(&self, alloc: Global) -> Result<Option<Ty>, AllocError>

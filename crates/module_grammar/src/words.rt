@@ -4,7 +4,7 @@ ghost use Rattle.module_grammar.specs.Tokens.{is_name_of, kind_among, among, pre
 ghost use Rattle.module_grammar.specs.Rules.{kinds_at};
 ghost use Rattle.op_table.specs.Rows.{all_kinds};
 
-use crate::state::Tok;
+use crate::state::TextToken;
 use crate::symbols::Keyword;
 use ir_forms::{Level, OpKind, Pred};
 
@@ -82,7 +82,7 @@ pub(crate) fn word_of(keyword: Keyword) -> &'static str
     }
 }
 
-impl<'a> Tok<'a> {
+impl<'a> TextToken<'a> {
     pub fn predicate(&self) -> Option<Pred>
         ensures { result ≡ predicate_of self.now }
     {

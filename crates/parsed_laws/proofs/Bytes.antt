@@ -4,7 +4,7 @@ use Rattle.std.proofs.lemmas.Bool.{and_parts}
 use Rattle.std.proofs.Math.Nat.{mod-lt}
 use lib.Utf8.{scalar, scalars, scalar_cases, encode, encodes}
 use Rattle.mlir_lex.specs.declared.kinds.Token.{Token}
-use Rattle.mlir_text.specs.Tokens.{toks_behind}
+use Rattle.mlir_text.specs.Tokens.{text_tokens_behind}
 use Rattle.mlir_print.specs.Printable.{AreBytes}
 use Rattle.read_forms.specs.Reads.{HaveBytes}
 
@@ -53,9 +53,9 @@ rest-is zero bs are = are
 rest-is (suc n) [] are = tt
 rest-is (suc n) (b ∷ bs) are = rest-is n bs are.1
 
-tokens-have : (text : List ℕ) (end : Option ℕ) (tokens : List Token) → AreBytes text → HaveBytes (toks_behind text end tokens)
+tokens-have : (text : List ℕ) (end : Option ℕ) (tokens : List Token) → AreBytes text → HaveBytes (text_tokens_behind text end tokens)
 tokens-have text end [] are = tt
 tokens-have text end (t ∷ ts) are = (front-is (t.end - t.start) (drop t.start text) (rest-is t.start text are), tokens-have text (Some t.end) ts are)
 
-pub tokens_have_bytes : (text : List ℕ) (end : Option ℕ) (tokens : List Token) → IsUtf8 text → HaveBytes (toks_behind text end tokens)
+pub tokens_have_bytes : (text : List ℕ) (end : Option ℕ) (tokens : List Token) → IsUtf8 text → HaveBytes (text_tokens_behind text end tokens)
 tokens_have_bytes text end tokens u = tokens-have text end tokens (utf8-is text u)

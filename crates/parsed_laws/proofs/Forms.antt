@@ -3,10 +3,10 @@ use Rattle.std.proofs.Common.{◌<◌, ℕ, List, [], ◌∷◌, None, sym, subs
 use Rattle.op_table.specs.declared.rows.Level.{Level}
 use Rattle.ir_forms.specs.declared.ops.Func.{Func}
 use Rattle.ir_forms.specs.declared.ops.Module.{Module}
-use Rattle.module_grammar.specs.declared.state.Tok.{Tok}
+use Rattle.module_grammar.specs.declared.state.TextToken.{TextToken}
 use Rattle.module_grammar.specs.declared.faults.TextLimits.{TextLimits}
 use Rattle.mlir_text.specs.Texts.{IsTextOf}
-use Rattle.mlir_text.specs.Tokens.{AreToksOf}
+use Rattle.mlir_text.specs.Tokens.{AreTokensOf}
 use Rattle.source_meaning.specs.TaskOrder.{Each}
 use Rattle.check_laws.specs.Fits.{HasSmallTypes}
 use Rattle.check_laws.specs.Laws.{HasNoBodyParams}
@@ -19,7 +19,7 @@ use Rattle.parsed_laws.proofs.Shown.{tokens_show}
 use Rattle.parsed_laws.proofs.Types.{no_params, small_types}
 use Rattle.parsed_laws.proofs.Values.{in_order, once}
 
-pub token_bytes : (text : List ℕ) (ts : List Tok) → AreToksOf text ts → HaveBytes ts
+pub token_bytes : (text : List ℕ) (ts : List TextToken) → AreTokensOf text ts → HaveBytes ts
 token_bytes text ts (tokens, cut, are) = subst HaveBytes (sym are) (tokens_have_bytes text None tokens cut.0)
 
 pub text_shows : (limits : TextLimits) (level : Level) (text : List ℕ) (m : Module) → limits.values < 4294967295 → IsTextOf limits level text m → FuncsShow level m.funcs

@@ -5,7 +5,7 @@ use Rattle.ir_forms.specs.declared.ops.ValueNo.{ValueNo}
 use Rattle.ir_forms.specs.declared.types.Ty.{Ty}
 use Rattle.module_grammar.specs.declared.symbols.Rule.TheVariants as rule
 use Rattle.module_grammar.specs.declared.symbols.Act.TheVariants as act
-use Rattle.module_grammar.specs.declared.state.Tok.{Tok}
+use Rattle.module_grammar.specs.declared.state.TextToken.{TextToken}
 use Rattle.module_grammar.specs.declared.state.State.{State}
 use Rattle.module_grammar.specs.State.{does, resolved_at, index_of, without_last}
 use Rattle.module_grammar.specs.Rules.{part, doing, colon, types_written, dict}
@@ -21,7 +21,7 @@ use Rattle.read_forms.proofs.Held.{Formed, typed-form, still-held, held-operands
 abbrev typed_with : State → Rest → List ValueNo → List Ty → ℕ → State
 typed_with s rest vs ts number = with_rest rest (record s { op = record (s.op) { operands = vs; written = s.op.written ++ ts; at = number }; read = []; held = [] })
 
-dict-held : (level : Level) (s : State) (t : Tok) → AfterHeld level s
+dict-held : (level : Level) (s : State) (t : TextToken) → AfterHeld level s
     → Owes (triples level) (doing act.HeldOperands ++ dict ++ doing act.OpAt ++ colon ++ types_written) (Formed level s) (record s { last = t })
 unfolding does
 dict-held level s t h =
@@ -61,7 +61,7 @@ changed xs vs ys v h =
     ∙ ap (λ (l : List ValueNo). l ++ ys) (sym (append_assoc xs (without_last vs) (v ∷ [])))
     ∙ ap (λ (l : List ValueNo). (l ++ v ∷ []) ++ ys) (sym (without-more xs vs h))
 
-index-held : (level : Level) (s : State) (t : Tok) → AfterHeld level s
+index-held : (level : Level) (s : State) (t : TextToken) → AfterHeld level s
     → Owes (triples level) (doing act.HeldOperands ++ doing act.OperandIndex ++ part rule.MoreUses ++ part rule.OpDict ++ colon ++ types_written) (Formed level s) (record s { last = t })
 unfolding does
 index-held level s t h =

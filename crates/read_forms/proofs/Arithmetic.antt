@@ -17,7 +17,7 @@ use Rattle.module_grammar.specs.declared.symbols.Keyword.TheVariants as key
 use Rattle.module_grammar.specs.declared.symbols.Rule.TheVariants as rule
 use Rattle.module_grammar.specs.declared.symbols.Act.TheVariants as act
 use Rattle.module_grammar.specs.declared.symbols.Symbol.{Symbol}
-use Rattle.module_grammar.specs.declared.state.Tok.{Tok}
+use Rattle.module_grammar.specs.declared.state.TextToken.{TextToken}
 use Rattle.module_grammar.specs.declared.state.Name.{Name}
 use Rattle.module_grammar.specs.declared.state.OpenOp.{OpenOp}
 use Rattle.module_grammar.specs.declared.state.State.{State}
@@ -38,7 +38,7 @@ FormOwes level k ss = (s : State) (at : ℕ) (rs : List Name) → at < 429496729
     → Owes (triples level) ss (Formed level (ready s k at rs)) (ready s k at rs)
 
 -- a rest that an operand, a dictionary and a type leave
-abbrev pub rest_with : (s : State) {visible : List Name} {before number : ℕ} → OperandRead visible before → NumberRead number → Tok → Rest
+abbrev pub rest_with : (s : State) {visible : List Name} {before number : ℕ} → OperandRead visible before → NumberRead number → TextToken → Rest
 rest_with s y d t = record (rest_of s) { last = t; used = y.used; counted = y.counted; entry = d.dict.entry; entry_at = d.dict.entry_at }
 
 -- the parts of an operation of a kind without regions

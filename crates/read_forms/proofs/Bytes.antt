@@ -3,7 +3,7 @@ use Rattle.std.proofs.Common.{◌<◌, ℕ, Bool, true, false, cond, ◌==◌, L
 use Rattle.std.specs.Prelude.{⊤}
 use Rattle.mlir_lex.specs.declared.kinds.TokenKind.{TokenKind}
 use Rattle.mlir_lex.specs.declared.kinds.TokenKind.TheVariants as kind
-use Rattle.module_grammar.specs.declared.state.Tok.{Tok}
+use Rattle.module_grammar.specs.declared.state.TextToken.{TextToken}
 use Rattle.module_grammar.specs.Tokens.{hex_byte, short_escape, said, string_of, symbol_of_kind, symbol_of}
 use Rattle.module_grammar.proofs.Runs.{by_option}
 use Rattle.mlir_print.specs.Printable.{AreBytes}
@@ -52,5 +52,5 @@ of-kind : (k : TokenKind) (text : List ℕ) → AreBytes text → AreBytes (symb
 of-kind kind.SymbolText text h = string-bytes (drop 1 text) (drop-bytes text h)
 of-kind _ text h = drop-bytes text h
 
-pub symbol-bytes : (t : Tok) → AreBytes t.text → AreBytes (symbol_of t)
+pub symbol-bytes : (t : TextToken) → AreBytes t.text → AreBytes (symbol_of t)
 symbol-bytes t h = of-kind t.kind t.text h

@@ -11,7 +11,7 @@ use Rattle.mlir_print.specs.Printable.{HasParts}
 use Rattle.module_grammar.specs.declared.symbols.Class.TheVariants as class
 use Rattle.module_grammar.specs.declared.symbols.Act.TheVariants as act
 use Rattle.module_grammar.specs.declared.symbols.Symbol.{Symbol}
-use Rattle.module_grammar.specs.declared.state.Tok.{Tok}
+use Rattle.module_grammar.specs.declared.state.TextToken.{TextToken}
 use Rattle.module_grammar.specs.declared.state.State.{State}
 use Rattle.module_grammar.specs.State.{with_else}
 use Rattle.module_grammar.specs.Rules.{parts, form, kinds_at, forms_then, doing}
@@ -88,7 +88,7 @@ all-formed Split = refl
 all-formed Low = refl
 
 each-of : (level : Level) (before ss : List Symbol) (Q : State → Type 0) (s : State) (ks : List OpKind)
-    → ((k : OpKind) → has_form k ≡ true → stands_at k level ≡ true → (t : Tok)
+    → ((k : OpKind) → has_form k ≡ true → stands_at k level ≡ true → (t : TextToken)
     → Owes (triples level) (before ++ doing (act.Kind k) ++ form k ++ ss) Q (record s { last = t }))
     → all_formed level ks ≡ true → EachOwes (triples level) (forms_then before ss ks) Q s
 each-of level before ss Q s [] f e = tt
@@ -100,7 +100,7 @@ each-of level before ss Q s (k ∷ ks) f e =
 
 -- each form of the level, with what stands before and behind it
 pub each-form : (level : Level) (before ss : List Symbol) (Q : State → Type 0) (s : State)
-    → ((k : OpKind) → has_form k ≡ true → stands_at k level ≡ true → (t : Tok)
+    → ((k : OpKind) → has_form k ≡ true → stands_at k level ≡ true → (t : TextToken)
     → Owes (triples level) (before ++ doing (act.Kind k) ++ form k ++ ss) Q (record s { last = t }))
     → EachOwes (triples level) (forms_then before ss (kinds_at level)) Q s
 each-form level before ss Q s f = each-of level before ss Q s (kinds_at level) f (all-formed level)

@@ -5,7 +5,7 @@ use Rattle.op_table.specs.declared.rows.Level.{Level}
 use Rattle.module_grammar.specs.declared.symbols.Act.{Act}
 use Rattle.module_grammar.specs.declared.symbols.Act.TheVariants as act
 use Rattle.module_grammar.specs.declared.symbols.Symbol.{Symbol}
-use Rattle.module_grammar.specs.declared.state.Tok.{Tok}
+use Rattle.module_grammar.specs.declared.state.TextToken.{TextToken}
 use Rattle.module_grammar.specs.declared.state.State.{State}
 use Rattle.module_grammar.specs.Engine.{Leads}
 use Rattle.module_grammar.specs.State.{at_start, does}
@@ -44,7 +44,7 @@ saw-after act.EndFunc b s h = saw-one b s.deepest h
 saw-after act.OpenBody b s h = saw-one b (max s.deepest 1) (omega arith)
 saw-after a b s h = saw-more b s.deepest (does a s).deepest (does-grew a s).deepest h
 
-leads-fit : (level : Level) (k : List Symbol) (s : State) (ts : List Tok) (s' : State) → Leads (grammar level) k s ts s'
+leads-fit : (level : Level) (k : List Symbol) (s : State) (ts : List TextToken) (s' : State) → Leads (grammar level) k s ts s'
     → s'.deepest < 4294967296 → SawBody (asks_body false k) s.deepest → StateFits s → StateFits s'
 leads-fit level _ _ _ _ (Leads.ended s) small saw h = h
 leads-fit level _ _ _ _ (Leads.word c k s t ts s' e d) small saw h = leads-fit level k (record s { last = t }) ts s' d small saw h

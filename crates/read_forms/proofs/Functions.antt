@@ -6,7 +6,7 @@ use Rattle.ir_forms.specs.declared.ops.Func.{Func}
 use Rattle.ir_forms.specs.declared.types.Ty.{Ty}
 use Rattle.module_grammar.specs.declared.symbols.Rule.TheVariants as rule
 use Rattle.module_grammar.specs.declared.symbols.Symbol.{Symbol}
-use Rattle.module_grammar.specs.declared.state.Tok.{Tok}
+use Rattle.module_grammar.specs.declared.state.TextToken.{TextToken}
 use Rattle.module_grammar.specs.declared.state.State.{State}
 use Rattle.module_grammar.specs.State.{does, param_names, param_value, up, as_number}
 use Rattle.module_grammar.specs.Tokens.{symbol_of}
@@ -79,12 +79,12 @@ func-owes : (level : Level) (s : State) (ss : List Symbol) (Q : State → Type 0
     → Owes (triples level) (func ++ ss) Q s
 func-owes level s ss Q h f =
     subst (λ (z : State). Owes (triples level) (func ++ ss) Q z)
-    (ap (λ (l : List Ty). record s { read = l; held = [] }) (sym h.read) ∙ ap (λ (l : List Tok). record s { held = l }) (sym h.held))
+    (ap (λ (l : List Ty). record s { read = l; held = [] }) (sym h.read) ∙ ap (λ (l : List TextToken). record s { held = l }) (sym h.held))
     (func-of level s ss Q h.funcs f)
 
 -- ---- the text
 
-at-token : (level : Level) (s : State) (t : Tok) → BeforeFuncs level s → BeforeFuncs level (record s { last = t })
+at-token : (level : Level) (s : State) (t : TextToken) → BeforeFuncs level s → BeforeFuncs level (record s { last = t })
 at-token level s t h = record { read = h.read; held = h.held; funcs = h.funcs }
 
 pub funcs-lines : (level : Level) (s : State) → BeforeFuncs level s → Lines level rule.Funcs s

@@ -9,7 +9,7 @@ use Rattle.ir_forms.specs.declared.ops.ValueNo.{ValueNo}
 use Rattle.ir_forms.specs.declared.types.Ty.{Ty}
 use Rattle.module_grammar.specs.declared.symbols.Rule.TheVariants as rule
 use Rattle.module_grammar.specs.declared.symbols.Act.TheVariants as act
-use Rattle.module_grammar.specs.declared.state.Tok.{Tok}
+use Rattle.module_grammar.specs.declared.state.TextToken.{TextToken}
 use Rattle.module_grammar.specs.declared.state.Name.{Name}
 use Rattle.module_grammar.specs.declared.state.OpenOp.{OpenOp}
 use Rattle.module_grammar.specs.declared.state.State.{State}
@@ -77,7 +77,7 @@ held-lines level s h = (
 
 -- ---- operands
 
-pub held-operands : (ts : List Tok) (s : State) → (add_operands ts s).counted < 4294967295
+pub held-operands : (ts : List TextToken) (s : State) → (add_operands ts s).counted < 4294967295
     → (x : UsesRead s.visible s.counted) × (length x.values ≡ length ts) × (with_uses s x ≡ add_operands ts s)
 unfolding no-uses more-uses
 held-operands [] s h = let x = no-uses s in (x.0, refl, x.1)
@@ -94,8 +94,8 @@ held-operands (t ∷ ts) s h =
     (more-uses s.visible s.counted x y.0, ap suc y.1, uses-joined s x y.0 ∙ y.2)
 
 -- some names are held, so there are some operands
-pub some-operands : (others : List Tok) (token : Tok) (held : List Tok) (vs : List ValueNo) → held ≡ others ++ token ∷ [] → length vs ≡ length held → 1 ≤ length vs
-some-operands others token held vs e f = omega (arith, f, ap (λ (l : List Tok). length l) e, length-append others (token ∷ []))
+pub some-operands : (others : List TextToken) (token : TextToken) (held : List TextToken) (vs : List ValueNo) → held ≡ others ++ token ∷ [] → length vs ≡ length held → 1 ≤ length vs
+some-operands others token held vs e f = omega (arith, f, ap (λ (l : List TextToken). length l) e, length-append others (token ∷ []))
 
 have-types : (n : ℕ) (t : Ty) (ts : List Ty) → 1 ≤ n → HaveTypes n (t ∷ ts)
 have-types zero t ts h = absurd (omega (arith, h))
@@ -112,12 +112,12 @@ typed-form level s s' h vs t ts a w some number fits rest rises e = (
   unmoved (with_rest rest (record s { op = record (s.op) { operands = s.op.operands ++ vs; written = s.op.written ++ t ∷ ts; at = number }; read = []; held = [] })) ∙ e,
 )
 
-pub still-held : (level : Level) (s : State) (t : Tok) → AfterHeld level s → AfterHeld level (record s { last = t })
+pub still-held : (level : Level) (s : State) (t : TextToken) → AfterHeld level s → AfterHeld level (record s { last = t })
 still-held level s t h = record { read = h.read; room = h.room; others = h.others; token = h.token; held = h.held; fits = h.fits; finishes = h.finishes }
 
 -- ---- results
 
-held-results : (ts : List Tok) (s : State)
+held-results : (ts : List TextToken) (s : State)
     → (x : MoreResultsRead s.op.results s.next) × (record s { op = record (s.op) { results = s.op.results ++ x.results }; next = x.next } ≡ add_results ts s)
 unfolding more-results
 held-results [] s = (
@@ -175,7 +175,7 @@ next-joined level s h at rs m a e x =
     (sym (append_assoc s.visible s.op.results x.names))
 
 -- what follows the results
-form-owes : (level : Level) (s s1 : State) (h : AfterHeld level s) (at : ℕ) (rs : List Name) (m c : ℕ) (l : Tok) (b : ℕ) → at < 4294967296 → IsNamed s.next rs m
+form-owes : (level : Level) (s s1 : State) (h : AfterHeld level s) (at : ℕ) (rs : List Name) (m c : ℕ) (l : TextToken) (b : ℕ) → at < 4294967296 → IsNamed s.next rs m
     → with_names s.counted rs < 4294967295 → s1 ≡ record (begun-next s at rs m) { last = l; begun = b; counted = with_names s.counted rs }
     → Owes (triples level) (part rule.Form) (Formed level s) s1
 unfolding begun-next
@@ -187,19 +187,19 @@ form-owes level s s1 h at rs m c l b fits named small is =
     )
 
 -- the last of the results stands for so many values
-counted-last : (n m c : ℕ) (rs : List Name) (t : Tok) → IsNamed n rs m → IsNamed n (last_counted (rs ++ name_at t m ∷ []) c) (number_up (number_up m 1 - 1) c)
+counted-last : (n m c : ℕ) (rs : List Name) (t : TextToken) → IsNamed n rs m → IsNamed n (last_counted (rs ++ name_at t m ∷ []) c) (number_up (number_up m 1 - 1) c)
 counted-last n m c rs t a =
     subst (λ (l : List Name). IsNamed n l (number_up (number_up m 1 - 1) c)) (sym (last_named rs (name_at t m) c))
     (named-more n m rs (record (name_at t m) { count = Some c }) (Some c) (number_up (number_up m 1 - 1) c) a refl refl
     (λ h. omega (arith, h)) (λ h. counted-number m c (omega (arith, h))))
 
-results-last : (xs : List Tok) (t : Tok) (s : State) → add_results (xs ++ t ∷ []) s ≡ add_result t (add_results xs s)
+results-last : (xs : List TextToken) (t : TextToken) (s : State) → add_results (xs ++ t ∷ []) s ≡ add_result t (add_results xs s)
 results-last [] t s = refl
 results-last (x ∷ xs) t s = results-last xs t (add_result x s)
 
 -- ---- the rules
 
-pub results-owe : (level : Level) (s : State) (t : Tok) → AfterHeld level s
+pub results-owe : (level : Level) (s : State) (t : TextToken) → AfterHeld level s
     → Owes (triples level) (doing act.HeldResults ++ doing act.CountNames ++ part rule.Form) (Formed level s) (record s { last = t })
 unfolding does begun-next
 results-owe level s t h =
@@ -208,13 +208,13 @@ results-owe level s t h =
     (λ m. form-owes level s _ h (as_number (up s.begun 1)) r.0.results r.0.next s.counted t (up s.begun 1) (omega arith)
     (r.0.named s.next (named-none s.next)) m refl)
 
-pub counted-owe : (level : Level) (s : State) (t : Tok) → AfterHeld level s
+pub counted-owe : (level : Level) (s : State) (t : TextToken) → AfterHeld level s
     → Owes (triples level) (doing act.HeldResults ++ doing act.ResultCount ++ doing act.CountNames ++ equals ++ part rule.Form) (Formed level s) (record s { last = t })
 unfolding does begun-next
 counted-owe level s t h =
     λ n. let s0 : State = begin_op (end_op (record s { last = t; held = [] })) in
     let r = held-results h.others s0 in
-    subst (λ (l : List Tok). Owes (triples level) (doing act.ResultCount ++ doing act.CountNames ++ equals ++ part rule.Form) (Formed level s) (add_results l s0)) (sym h.held)
+    subst (λ (l : List TextToken). Owes (triples level) (doing act.ResultCount ++ doing act.CountNames ++ equals ++ part rule.Form) (Formed level s) (add_results l s0)) (sym h.held)
     (subst (λ (z : State). Owes (triples level) (doing act.ResultCount ++ doing act.CountNames ++ equals ++ part rule.Form) (Formed level s) z)
     (ap (add_result h.token) r.1 ∙ sym (results-last h.others h.token s0))
     (λ i. λ m. λ t2 b2 a2. form-owes level s _ h (as_number (up s.begun 1)) (last_counted (r.0.results ++ name_at h.token r.0.next ∷ []) (unwrap_or (number_of t) 0))

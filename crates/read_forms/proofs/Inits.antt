@@ -11,7 +11,7 @@ use Rattle.module_grammar.specs.declared.symbols.Rule.TheVariants as rule
 use Rattle.module_grammar.specs.declared.symbols.Keyword.TheVariants as key
 use Rattle.module_grammar.specs.declared.symbols.Act.TheVariants as act
 use Rattle.module_grammar.specs.declared.symbols.Symbol.{Symbol}
-use Rattle.module_grammar.specs.declared.state.Tok.{Tok}
+use Rattle.module_grammar.specs.declared.state.TextToken.{TextToken}
 use Rattle.module_grammar.specs.declared.state.Param.{Param}
 use Rattle.module_grammar.specs.declared.state.State.{State}
 use Rattle.module_grammar.specs.State.{does, name_at, last_typed, first_type, payload_types, is_untyped, type_or, add_param}
@@ -69,7 +69,7 @@ more-inits-lines level s h = (
   tt,
 )
 
-inits-last : (s : State) → InitsRead s.visible s.next s.counted → Tok → InitsRead s.visible s.next s.counted
+inits-last : (s : State) → InitsRead s.visible s.next s.counted → TextToken → InitsRead s.visible s.next s.counted
 inits-last s x t = record { read = record x.read { last = t }; values = x.values; are_seen = x.are_seen; untyped = x.untyped; rises = x.rises; used = x.used }
 
 pub inits-lines : (level : Level) (s : State) → HasRoom s → Lines level rule.Inits s
@@ -109,7 +109,7 @@ typed-length (p ∷ ps) ts =
     either-length (is_untyped p.ty) (record p { ty = type_or ts p.ty } ∷ machine.typed_by ps (drop 1 ts)) (p ∷ machine.typed_by ps ts) (suc (length ps))
     (ap suc (typed-length ps (drop 1 ts))) (ap suc (typed-length ps ts))
 
-typed-read : (first before n : ℕ) (r : ParamsRead first before) (ts : List Ty) → r.types ≡ replicate n ty.Untyped → Tok → ParamsRead first before
+typed-read : (first before n : ℕ) (r : ParamsRead first before) (ts : List Ty) → r.types ≡ replicate n ty.Untyped → TextToken → ParamsRead first before
 typed-read first before n r ts e t = record {
   params = machine.typed_by r.params ts;
   types = typed_by n ts;
@@ -122,7 +122,7 @@ typed-read first before n r ts e t = record {
 }
 
 iter-read : (s : State) (x : ParamRead s.next s.counted) → x.type ≡ ty.Untyped → (y : OperandRead s.visible x.counted)
-    → InitsRead s.visible x.next y.counted → (u : TypeRead) → TypesRead → Tok → IterArgsRead s.visible s.next s.counted
+    → InitsRead s.visible x.next y.counted → (u : TypeRead) → TypesRead → TextToken → IterArgsRead s.visible s.next s.counted
 unfolding more-inits typed-read
 iter-read s x e y z u us t =
     let i : InitsRead s.visible s.next s.counted = more-inits s x e y z in
@@ -255,7 +255,7 @@ more-values-of level s h = (
   tt,
 )
 
-values-last : (s : State) → ValuesRead s.visible s.next s.counted → Tok → ValuesRead s.visible s.next s.counted
+values-last : (s : State) → ValuesRead s.visible s.next s.counted → TextToken → ValuesRead s.visible s.next s.counted
 values-last s x t = record {
   read = record x.read { last = t };
   values = x.values;

@@ -7,7 +7,7 @@ use Rattle.ir_forms.specs.declared.types.Ty.{Ty}
 use Rattle.ir_forms.specs.declared.types.Ty.TheVariants as ty
 use Rattle.ir_forms.specs.declared.ops.Attr.TheVariants as attr
 use Rattle.module_grammar.specs.declared.symbols.Rule.TheVariants as rule
-use Rattle.module_grammar.specs.declared.state.Tok.{Tok}
+use Rattle.module_grammar.specs.declared.state.TextToken.{TextToken}
 use Rattle.module_grammar.specs.declared.state.State.{State}
 use Rattle.module_grammar.specs.State.{does, is_true, literal}
 use Rattle.module_grammar.specs.Tokens.{is_up_to, below, number_of, number_of_kind, is_number_kind}
@@ -27,14 +27,14 @@ below-limit n =
     (λ y. rw y (ltb-true n 18446744073709551616 y))
     (λ z. rw z (omega arith))
 
-number-small : (t : Tok) → unwrap_or (number_of t) 0 < 18446744073709551616
+number-small : (t : TextToken) → unwrap_or (number_of t) 0 < 18446744073709551616
 unfolding number_of
 number-small t = below-limit (number_of_kind t.kind t.text)
 
-kept : (s : State) (t : Tok) → NumberRead s.op.at
+kept : (s : State) (t : TextToken) → NumberRead s.op.at
 kept s t = record { dict = record { last = t; entry = s.entry; entry_at = s.entry_at }; at = s.op.at; fits = λ h. h }
 
-number-with : {before : ℕ} → NumberRead before → Tok → NumberRead before
+number-with : {before : ℕ} → NumberRead before → TextToken → NumberRead before
 number-with x t = record { dict = record x.dict { last = t }; at = x.at; fits = x.fits }
 
 literal-of : (level : Level) (s : State) → Lines level rule.Literal (record s { read = [] })

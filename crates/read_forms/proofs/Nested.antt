@@ -9,7 +9,7 @@ use Rattle.ir_forms.specs.declared.ops.Func.{Func}
 use Rattle.mlir_print.specs.Depth.{depth_of_region, depth_of_funcs}
 use Rattle.module_grammar.specs.declared.symbols.Act.{Act}
 use Rattle.module_grammar.specs.declared.symbols.Act.TheVariants as act
-use Rattle.module_grammar.specs.declared.state.Tok.{Tok}
+use Rattle.module_grammar.specs.declared.state.TextToken.{TextToken}
 use Rattle.module_grammar.specs.declared.state.Outer.{Outer}
 use Rattle.module_grammar.specs.declared.state.State.{State}
 use Rattle.module_grammar.specs.State.{up, param_value, op_of, region_of, left_out, body_ops, with_made, last_of, without_last, does, add_operands, add_operand, add_results, add_result, open_region, close_into, numbered_op, numbered_func, begin_op, end_op}
@@ -142,11 +142,11 @@ finished s seen h =
       level_seen = h.level_seen;
     }
 
-operands-fit : (ts : List Tok) (s : State) → StateFits s → StateFits (add_operands ts s)
+operands-fit : (ts : List TextToken) (s : State) → StateFits s → StateFits (add_operands ts s)
 operands-fit [] s h = h
 operands-fit (t ∷ ts) s h = operands-fit ts (add_operand t s) h
 
-results-fit : (ts : List Tok) (s : State) → StateFits s → StateFits (add_results ts s)
+results-fit : (ts : List TextToken) (s : State) → StateFits s → StateFits (add_results ts s)
 results-fit [] s h = h
 results-fit (t ∷ ts) s h = results-fit ts (add_result t s) h
 

@@ -8,7 +8,7 @@ use Rattle.module_grammar.specs.declared.symbols.Act.{Act}
 use Rattle.module_grammar.specs.declared.symbols.Act.TheVariants as act
 use Rattle.module_grammar.specs.declared.symbols.Symbol.{Symbol}
 use Rattle.module_grammar.specs.declared.symbols.Symbol.TheVariants as symbol
-use Rattle.module_grammar.specs.declared.state.Tok.{Tok}
+use Rattle.module_grammar.specs.declared.state.TextToken.{TextToken}
 use Rattle.module_grammar.specs.declared.state.State.{State}
 use Rattle.module_grammar.specs.Engine.{Line, first_line, line_at}
 use Rattle.module_grammar.specs.Rules.{grammar, lines}
@@ -54,7 +54,7 @@ both : (a b : Bool) → not a && b ≡ true → (a ≡ false) × (b ≡ true)
 both false b e = (refl, e)
 both true b e = absurd cc
 
-chosen-free : (level : Level) (ls : List Line) (s : State) (t : Tok) (l : Line) → first_line (grammar level) ls s t ≡ Some l → all_free ls ≡ true → asks_body false l.after ≡ false
+chosen-free : (level : Level) (ls : List Line) (s : State) (t : TextToken) (l : Line) → first_line (grammar level) ls s t ≡ Some l → all_free ls ≡ true → asks_body false l.after ≡ false
 chosen-free level [] s t l is all = absurd cc
 chosen-free level (x ∷ ls) s t l is all =
     let free = both (asks_body false x.after) (all_free ls) all in
@@ -70,7 +70,7 @@ only-behind xs true e f = refl
 only-behind xs false e f = sym e ∙ f
 
 -- where a line asks for a body, what stands behind its rule does
-pub line-asks : (level : Level) (r : Rule) (s : State) (t : Tok) (l : Line) (k : List Symbol) → line_at (grammar level) r s t ≡ Some l
+pub line-asks : (level : Level) (r : Rule) (s : State) (t : TextToken) (l : Line) (k : List Symbol) → line_at (grammar level) r s t ≡ Some l
     → asks_body false (l.after ++ k) ≡ true → asks_body false k ≡ true
 line-asks level r s t l k is asks =
     only-behind l.after (asks_body false k) (chosen-free level (lines level r) s t l is (lines-free level r)) (sym (asks-append l.after k false) ∙ asks)

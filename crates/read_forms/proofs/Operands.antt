@@ -5,7 +5,7 @@ use Rattle.op_table.specs.declared.rows.Level.{Level}
 use Rattle.ir_forms.specs.declared.ops.ValueNo.{ValueNo}
 use Rattle.module_grammar.specs.declared.symbols.Rule.TheVariants as rule
 use Rattle.module_grammar.specs.declared.symbols.Symbol.{Symbol}
-use Rattle.module_grammar.specs.declared.state.Tok.{Tok}
+use Rattle.module_grammar.specs.declared.state.TextToken.{TextToken}
 use Rattle.module_grammar.specs.declared.state.Name.{Name}
 use Rattle.module_grammar.specs.declared.state.State.{State}
 use Rattle.module_grammar.specs.State.{does, resolved, resolved_at, index_of, without_last, up}
@@ -41,7 +41,7 @@ pub record OperandRead (visible : List Name) (before : ℕ) : Type 0 where
   pub counted : ℕ
   pub rises : before + 1 ≤ counted
   pub used : List ℕ
-  pub last : Tok
+  pub last : TextToken
 
 abbrev pub with_operand : (s : State) → OperandRead s.visible s.counted → State
 with_operand s x = record s { op = record (s.op) { operands = s.op.operands ++ x.value ∷ [] }; used = x.used; last = x.last; counted = x.counted }
@@ -103,7 +103,7 @@ more-uses-lines level s = (
   tt,
 )
 
-with-last : {visible : List Name} {before : ℕ} → UsesRead visible before → Tok → UsesRead visible before
+with-last : {visible : List Name} {before : ℕ} → UsesRead visible before → TextToken → UsesRead visible before
 with-last x t = record { values = x.values; are_seen = x.are_seen; counted = x.counted; rises = x.rises; used = x.used; last = t }
 
 pub dependencies-lines : (level : Level) (s : State) → Lines level rule.Dependencies s

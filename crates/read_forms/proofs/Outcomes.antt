@@ -15,11 +15,11 @@ use Rattle.ir_forms.specs.declared.types.Ty.{Ty}
 use Rattle.ir_forms.specs.declared.types.Ty.TheVariants as ty
 use Rattle.module_grammar.specs.declared.symbols.Rule.{Rule}
 use Rattle.module_grammar.specs.declared.symbols.Rule.TheVariants as rule
-use Rattle.module_grammar.specs.declared.state.Tok.{Tok}
+use Rattle.module_grammar.specs.declared.state.TextToken.{TextToken}
 use Rattle.module_grammar.specs.declared.state.Name.{Name}
 use Rattle.module_grammar.specs.declared.state.Param.{Param}
 use Rattle.module_grammar.specs.declared.state.OpenOp.{OpenOp}
-use Rattle.module_grammar.specs.declared.state.Entry.{Entry}
+use Rattle.module_grammar.specs.declared.state.DictEntry.{DictEntry}
 use Rattle.module_grammar.specs.declared.state.State.{State}
 use Rattle.module_grammar.specs.State.{no_op, without_last, values_of, name_at, number_up, op_of, with_else, param_names}
 use Rattle.mlir_print.specs.Printable.{AreBytes, IsWritten, AreWritten, HaveTypes, IsEnded, payload, typed_by, NumberOn, Scope, defining, param_types}
@@ -32,16 +32,16 @@ use Rattle.read_forms.proofs.Shows.{Piece, Shows}
 pub record TypeRead : Type 0 where
   pub type : Ty
   pub written : IsWritten type
-  pub last : Tok
+  pub last : TextToken
 
 pub record TypesRead : Type 0 where
   pub types : List Ty
   pub written : AreWritten types
-  pub last : Tok
+  pub last : TextToken
 
 pub record DictRead : Type 0 where
-  pub last : Tok
-  pub entry : Entry
+  pub last : TextToken
+  pub entry : DictEntry
   pub entry_at : Option ℕ
 
 -- a dictionary that may give a number
@@ -58,7 +58,7 @@ with_dict d s = record s { last = d.last; entry = d.entry; entry_at = d.entry_at
 pub record IndexRead (visible : List Name) : Type 0 where
   pub value : ValueNo
   pub is_seen : IsSeenOrNot (seen_of visible) value
-  pub last : Tok
+  pub last : TextToken
 
 pub record UsesRead (visible : List Name) (before : ℕ) : Type 0 where
   pub values : List ValueNo
@@ -66,7 +66,7 @@ pub record UsesRead (visible : List Name) (before : ℕ) : Type 0 where
   pub counted : ℕ
   pub rises : before + length values ≤ counted
   pub used : List ℕ
-  pub last : Tok
+  pub last : TextToken
 
 abbrev pub with_uses : (s : State) → UsesRead s.visible s.counted → State
 with_uses s x = record s { op = record (s.op) { operands = s.op.operands ++ x.values }; used = x.used; last = x.last; counted = x.counted }
@@ -98,7 +98,7 @@ pub record ParamsRead (first before : ℕ) : Type 0 where
   pub next_is : next ≡ first + length params
   pub counted : ℕ
   pub rises : before + length params ≤ counted
-  pub last : Tok
+  pub last : TextToken
 
 pub record HeadRead (first before : ℕ) : Type 0 where
   pub read : ParamsRead first before
@@ -146,17 +146,17 @@ with_params s x = record s { op = record (s.op) { params = s.op.params ++ x.para
 pub record ResultsRead (left : List Name) (first : ℕ) : Type 0 where
   pub results : List Name
   pub next : ℕ
-  pub last : Tok
-  pub named : (t : Tok) (n : ℕ) → left ≡ name_at t n ∷ [] → first ≡ number_up n 1 → IsNamed n results next
+  pub last : TextToken
+  pub named : (t : TextToken) (n : ℕ) → left ≡ name_at t n ∷ [] → first ≡ number_up n 1 → IsNamed n results next
 
 pub record MoreResultsRead (before : List Name) (first : ℕ) : Type 0 where
   pub results : List Name
   pub next : ℕ
-  pub last : Tok
+  pub last : TextToken
   pub named : (n : ℕ) → IsNamed n before first → IsNamed n (before ++ results) next
 
 pub record HasResult (s : State) : Type 0 where
-  pub token : Tok
+  pub token : TextToken
   pub number : ℕ
   pub is : s.op.results ≡ name_at token number ∷ []
   pub next_is : s.next ≡ number_up number 1
@@ -165,12 +165,12 @@ pub record HasResult (s : State) : Type 0 where
 
 -- parts of a state of which little is said
 pub record Rest : Type 0 where
-  pub last : Tok
+  pub last : TextToken
   pub used : List ℕ
   pub begun : ℕ
   pub deepest : ℕ
   pub counted : ℕ
-  pub entry : Entry
+  pub entry : DictEntry
   pub entry_at : Option ℕ
 
 abbrev pub with_rest : Rest → State → State
@@ -254,8 +254,8 @@ pub record BeforeHeld (level : Level) (s : State) : Type 0 where
 pub record AfterHeld (level : Level) (s : State) : Type 0 where
   pub read : s.read ≡ []
   pub room : HasRoom s
-  pub others : List Tok
-  pub token : Tok
+  pub others : List TextToken
+  pub token : TextToken
   pub held : s.held ≡ others ++ token ∷ []
   pub fits : s.op.at < 4294967296
   pub finishes : Finishes level s.op s.visible s.next
@@ -404,13 +404,13 @@ Before level _ s = ⊤
 
 abbrev pub Outcome : Level → Rule → State → Type 0
 Outcome level rule.Text s = FuncsRead level
-Outcome level rule.ModuleName s = Tok
-Outcome level rule.ModuleAttributes s = Tok
+Outcome level rule.ModuleName s = TextToken
+Outcome level rule.ModuleAttributes s = TextToken
 Outcome level rule.Funcs s = FuncsRead level
-Outcome level rule.Visibility s = Tok
+Outcome level rule.Visibility s = TextToken
 Outcome level rule.Params s = HeadRead s.next s.counted
 Outcome level rule.MoreParams s = HeadRead s.next s.counted
-Outcome level rule.DroppedDict s = Tok
+Outcome level rule.DroppedDict s = TextToken
 Outcome level rule.FuncResults s = TypesRead
 Outcome level rule.FuncAttributes s = NumberRead s.func.at
 Outcome level rule.Type s = TypeRead
@@ -419,8 +419,8 @@ Outcome level rule.MoreTypes s = TypesRead
 Outcome level rule.ResultTypes s = TypesRead
 Outcome level rule.OpDict s = NumberRead s.op.at
 Outcome level rule.Dict s = DictRead
-Outcome level rule.Inside s = Tok
-Outcome level rule.Location s = Tok
+Outcome level rule.Inside s = TextToken
+Outcome level rule.Location s = TextToken
 Outcome level rule.Body s = BodyRead level s.visible s.next
 Outcome level rule.Results s = ResultsRead s.op.results s.next
 Outcome level rule.MoreResults s = MoreResultsRead s.op.results s.next
@@ -447,7 +447,7 @@ Outcome level rule.ValueOperands s = ValuesRead s.visible s.next s.counted
 Outcome level rule.MoreValueOperands s = ValuesRead s.visible s.next s.counted
 Outcome level rule.OpResults s = TypesRead
 
-abbrev pub skipped : State → Tok → State
+abbrev pub skipped : State → TextToken → State
 skipped s t = record s { last = t }
 
 abbrev pub with_types : State → TypesRead → State

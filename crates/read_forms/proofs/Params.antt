@@ -8,7 +8,7 @@ use Rattle.module_grammar.specs.declared.symbols.Class.TheVariants as class
 use Rattle.module_grammar.specs.declared.symbols.Rule.TheVariants as rule
 use Rattle.module_grammar.specs.declared.symbols.Act.TheVariants as act
 use Rattle.module_grammar.specs.declared.symbols.Symbol.{Symbol}
-use Rattle.module_grammar.specs.declared.state.Tok.{Tok}
+use Rattle.module_grammar.specs.declared.state.TextToken.{TextToken}
 use Rattle.module_grammar.specs.declared.state.Name.{Name}
 use Rattle.module_grammar.specs.declared.state.Param.{Param}
 use Rattle.module_grammar.specs.declared.state.State.{State}
@@ -33,13 +33,13 @@ pub record ParamRead (first before : ℕ) : Type 0 where
   pub next_is : next ≡ first + 1
   pub counted : ℕ
   pub rises : before + 1 ≤ counted
-  pub last : Tok
+  pub last : TextToken
 
 abbrev pub with_param : (s : State) → ParamRead s.next s.counted → State
 with_param s x = record s { op = record (s.op) { params = s.op.params ++ x.param ∷ [] }; next = x.next; counted = x.counted; last = x.last }
 
 -- the parameter that a name makes
-unfoldable pub named_param : (t : Tok) (type : Ty) (first before : ℕ) (last : Tok) → first ≤ before → up before 1 < 4294967295 → ParamRead first before
+unfoldable pub named_param : (t : TextToken) (type : Ty) (first before : ℕ) (last : TextToken) → first ≤ before → up before 1 < 4294967295 → ParamRead first before
 named_param t type first before last h n = record {
   param = record { name = name_at t first; ty = type };
   type = type;
@@ -105,7 +105,7 @@ more-params first before x c h y = record {
 abbrev pub with_param_list : State → List Param → State
 with_param_list s ps = record s { op = record (s.op) { params = ps } }
 
-unfoldable pub no-params : (first before : ℕ) → Tok → ParamsRead first before
+unfoldable pub no-params : (first before : ℕ) → TextToken → ParamsRead first before
 no-params first before t = record {
   params = [];
   types = [];
@@ -221,7 +221,7 @@ more-block-params-lines level s h = (
   tt,
 )
 
-head-last : (first before : ℕ) → HeadRead first before → Tok → HeadRead first before
+head-last : (first before : ℕ) → HeadRead first before → TextToken → HeadRead first before
 head-last first before x t = record { read = record x.read { last = t }; written = x.written }
 
 pub block-params-lines : (level : Level) (s : State) → ReadyForParams s → Lines level rule.BlockParams s

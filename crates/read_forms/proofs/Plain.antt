@@ -22,7 +22,7 @@ use Rattle.module_grammar.specs.declared.symbols.Class.TheVariants as class
 use Rattle.module_grammar.specs.declared.symbols.Rule.TheVariants as rule
 use Rattle.module_grammar.specs.declared.symbols.Act.TheVariants as act
 use Rattle.module_grammar.specs.declared.symbols.Symbol.{Symbol}
-use Rattle.module_grammar.specs.declared.state.Tok.{Tok}
+use Rattle.module_grammar.specs.declared.state.TextToken.{TextToken}
 use Rattle.module_grammar.specs.declared.state.Name.{Name}
 use Rattle.module_grammar.specs.declared.state.OpenOp.{OpenOp}
 use Rattle.module_grammar.specs.declared.state.State.{State}
@@ -140,7 +140,7 @@ pub own-count : (o : Op) (n : ℕ) (a : Attr) (groups : List ℕ) (written types
 own-count o n a groups written types params h = subst (λ (c : ℕ). Has o c a groups written types params) (sym h.operand_count) h
 
 arguments-owe : (level : Level) (k : OpKind) (s : State) (at : ℕ) (rs : List Name) (ss : List Symbol) (Q : State → Type 0)
-    → ((name : List ℕ) → AreBytes name → (x : UsesRead s.visible s.counted) (d : NumberRead at) (us : TypesRead) (l : Tok)
+    → ((name : List ℕ) → AreBytes name → (x : UsesRead s.visible s.counted) (d : NumberRead at) (us : TypesRead) (l : TextToken)
     → Owes (triples level) ss Q (record (with_dict d.dict (record (ready s k at rs) {
       op = record (opened k d.at rs) { attr = attr.Callee name; operands = x.values; written = us.types };
       used = x.used;
@@ -162,7 +162,7 @@ arguments-owe level k s at rs ss Q f =
     )
 
 -- the rest that arguments, a dictionary and types leave
-abbrev rest_after : (s : State) {visible : List Name} {before number : ℕ} → UsesRead visible before → NumberRead number → Tok → Rest
+abbrev rest_after : (s : State) {visible : List Name} {before number : ℕ} → UsesRead visible before → NumberRead number → TextToken → Rest
 rest_after s x d t = record (rest_of s) { last = t; used = x.used; counted = x.counted; entry = d.dict.entry; entry_at = d.dict.entry_at }
 
 pub call-owes : (level : Level) → IsKind level op.FuncCall → FormOwes level op.FuncCall (arguments ++ arrow ++ part rule.ResultTypes ++ doing act.Results)
@@ -254,7 +254,7 @@ memref-is (Some (ty.Memref m)) e = (m, refl, refl)
 memref-is _ e = absurd cc
 
 typed-memref-owes : (level : Level) (s : State) (ss : List Symbol) (Q : State → Type 0)
-    → ((d : NumberRead s.op.at) (m : MemTy) → IsWrittenMemref m → (l : Tok)
+    → ((d : NumberRead s.op.at) (m : MemTy) → IsWrittenMemref m → (l : TextToken)
     → Owes (triples level) ss Q (record (with_dict d.dict (record s { op = record (s.op) { at = d.at } })) { read = s.read ++ ty.Memref m ∷ []; last = l }))
     → Owes (triples level) (typed_as class.MemrefType ++ ss) Q s
 unfolding does is_of

@@ -11,7 +11,7 @@ use Rattle.ir_forms.specs.declared.types.Ty.{Ty}
 use Rattle.module_grammar.specs.declared.symbols.Rule.TheVariants as rule
 use Rattle.module_grammar.specs.declared.symbols.Act.TheVariants as act
 use Rattle.module_grammar.specs.declared.symbols.Symbol.{Symbol}
-use Rattle.module_grammar.specs.declared.state.Tok.{Tok}
+use Rattle.module_grammar.specs.declared.state.TextToken.{TextToken}
 use Rattle.module_grammar.specs.declared.state.Name.{Name}
 use Rattle.module_grammar.specs.declared.state.Param.{Param}
 use Rattle.module_grammar.specs.declared.state.OpenOp.{OpenOp}
@@ -113,7 +113,7 @@ outside visible names more = ap (take (length visible)) (append_assoc visible na
 
 -- what is known at the end of a region
 region-done : (level : Level) (k : OpKind) (types : List Ty) (ps : List Param) (visible : List Name) (next : ℕ)
-    → BodyRead level (visible ++ param_names ps) next → Tok → RegionRead level k types ps visible next
+    → BodyRead level (visible ++ param_names ps) next → TextToken → RegionRead level k types ps visible next
 region-done level k types ps visible next x t = record {
   ops = with_made (body_ops k x.ops) (left_out k types (body_ops k x.ops)) x.rest.begun;
   end = x.next;
@@ -142,7 +142,7 @@ rest-owes level s ss Q h f =
 pub clean-is : (s : State) → IsClean s → record s { read = []; held = [] } ≡ s
 clean-is s h =
     ap (λ (l : List Ty). record s { read = l; held = [] }) (sym h.read)
-    ∙ ap (λ (l : List Tok). record s { held = l }) (sym h.held)
+    ∙ ap (λ (l : List TextToken). record s { held = l }) (sym h.held)
 
 pub region-owes : (level : Level) (s : State) (ss : List Symbol) (Q : State → Type 0) → IsClean s
     → ((x : RegionRead level s.op.kind s.op.types s.op.params s.visible s.next) → Owes (triples level) ss Q (with_region s x))
@@ -167,7 +167,7 @@ nested : (visible names : List Name) → (visible ++ []) ++ names ≡ visible ++
 nested visible names = ap (λ (l : List Name). l ++ names) (append-nil visible)
 
 block-done : (level : Level) (k : OpKind) (types : List Ty) (ps : List Param) (visible : List Name) (next : ℕ)
-    → BodyRead level ((visible ++ []) ++ param_names ps) next → Tok → RegionRead level k types ps visible next
+    → BodyRead level ((visible ++ []) ++ param_names ps) next → TextToken → RegionRead level k types ps visible next
 block-done level k types ps visible next x t = record {
   ops = with_made (body_ops k x.ops) (left_out k types (body_ops k x.ops)) x.rest.begun;
   end = x.next;

@@ -4,7 +4,7 @@ use Rattle.std.specs.Prelude.{unwrap_or}
 use Rattle.std.proofs.lemmas.List.{append-nil}
 use Rattle.op_table.specs.declared.rows.Level.{Level}
 use Rattle.module_grammar.specs.declared.symbols.Rule.TheVariants as rule
-use Rattle.module_grammar.specs.declared.state.Tok.{Tok}
+use Rattle.module_grammar.specs.declared.state.TextToken.{TextToken}
 use Rattle.module_grammar.specs.declared.state.Name.{Name}
 use Rattle.module_grammar.specs.declared.state.State.{State}
 use Rattle.module_grammar.specs.State.{does, name_at, number_up, last_counted}
@@ -13,7 +13,7 @@ use Rattle.read_forms.proofs.Scopes.{IsNamed, named-none, named-one, named-more,
 use Rattle.read_forms.proofs.Outcomes.{ResultsRead, MoreResultsRead}
 use Rattle.read_forms.proofs.Words.{Lines}
 
-unfoldable pub more-results : (before : List Name) (first : ℕ) (t : Tok) → MoreResultsRead (before ++ name_at t first ∷ []) (number_up first 1) → MoreResultsRead before first
+unfoldable pub more-results : (before : List Name) (first : ℕ) (t : TextToken) → MoreResultsRead (before ++ name_at t first ∷ []) (number_up first 1) → MoreResultsRead before first
 more-results before first t x = record {
   results = name_at t first ∷ x.results;
   next = x.next;
@@ -44,7 +44,7 @@ no-more-results s = (
 )
 
 -- one result is named
-one-named : (left : List Name) (first : ℕ) (t : Tok) (n : ℕ) → left ≡ name_at t n ∷ [] → first ≡ number_up n 1 → IsNamed n left first
+one-named : (left : List Name) (first : ℕ) (t : TextToken) (n : ℕ) → left ≡ name_at t n ∷ [] → first ≡ number_up n 1 → IsNamed n left first
 one-named left first t n e f =
     subst (λ (l : List Name). IsNamed n l first) (sym e) (subst (λ (m : ℕ). IsNamed n (name_at t n ∷ []) m) (sym f) (named-one n n [] t (named-none n)))
 
@@ -56,7 +56,7 @@ all-results left first x = record {
   named = λ t n e f. x.named n (one-named left first t n e f);
 }
 
-counted-results : (left : List Name) (first c : ℕ) → Tok → ResultsRead left first
+counted-results : (left : List Name) (first c : ℕ) → TextToken → ResultsRead left first
 counted-results left first c last = record {
   results = last_counted left c;
   next = number_up (first - 1) c;

@@ -7,7 +7,7 @@ use Rattle.std.proofs.lemmas.List.{map-append, length-append, append-nil}
 use Rattle.std.proofs.lemmas.List.Elements.{Contains-append_left, Contains-append_right}
 use Rattle.ir_forms.specs.declared.ops.ValueNo.{ValueNo}
 use Rattle.module_grammar.specs.declared.state.Name.{Name}
-use Rattle.module_grammar.specs.declared.state.Tok.{Tok}
+use Rattle.module_grammar.specs.declared.state.TextToken.{TextToken}
 use Rattle.module_grammar.specs.State.{unknown, value, number_up, first_of, part_of, resolved, resolved_at, counted_from, values_of_name, values_of, count_of, up, with_names, name_at}
 use Rattle.module_grammar.proofs.Runs.{by_test}
 use Rattle.mlir_print.specs.Printable.{numbers, NumberOn, AreSeen}
@@ -178,5 +178,5 @@ named-all n m c xs a h i =
     (b.0, omega (arith, b.1, weight-is xs), omega (arith, b.1, w, h))
 
 -- one name more, of one value
-pub named-one : (n m : ℕ) (xs : List Name) (t : Tok) → IsNamed n xs m → IsNamed n (xs ++ name_at t m ∷ []) (number_up m 1)
+pub named-one : (n m : ℕ) (xs : List Name) (t : TextToken) → IsNamed n xs m → IsNamed n (xs ++ name_at t m ∷ []) (number_up m 1)
 named-one n m xs t a = named-more n m xs (name_at t m) None (number_up m 1) a refl refl (λ h. omega (arith, h)) (λ h. number-one m (omega (arith, h)))

@@ -12,7 +12,7 @@ use Rattle.mlir_print.specs.Depth.{depth_of_op, depth_of_region, depth_of_funcs}
 use Rattle.module_grammar.specs.declared.symbols.Act.{Act}
 use Rattle.module_grammar.specs.declared.symbols.Act.TheVariants as act
 use Rattle.module_grammar.specs.declared.symbols.Symbol.{Symbol}
-use Rattle.module_grammar.specs.declared.state.Tok.{Tok}
+use Rattle.module_grammar.specs.declared.state.TextToken.{TextToken}
 use Rattle.module_grammar.specs.declared.state.OpenOp.{OpenOp}
 use Rattle.module_grammar.specs.declared.state.Outer.{Outer}
 use Rattle.module_grammar.specs.declared.state.State.{State}
@@ -105,11 +105,11 @@ ended (inside n blank) s h =
     let deep = h.0 in
     (omega (arith, more, one, deep), h.1, none-if blank [] refl)
 
-results-see : (ts : List Tok) (p : Stand) (s : State) → HasSeen p s → HasSeen p (add_results ts s)
+results-see : (ts : List TextToken) (p : Stand) (s : State) → HasSeen p s → HasSeen p (add_results ts s)
 results-see [] p s h = h
 results-see (t ∷ ts) p s h = results-see ts p (add_result t s) h
 
-operands-see : (ts : List Tok) (p : Stand) (s : State) → HasSeen p s → HasSeen p (add_operands ts s)
+operands-see : (ts : List TextToken) (p : Stand) (s : State) → HasSeen p s → HasSeen p (add_operands ts s)
 operands-see [] p s h = h
 operands-see (t ∷ ts) p s h = operands-see ts p (add_operand t s) h
 
@@ -224,7 +224,7 @@ left-out other p s h = h
 
 -- ---- the whole
 
-leads-see : (level : Level) (k : List Symbol) (s : State) (ts : List Tok) (s' : State) → Leads (grammar level) k s ts s'
+leads-see : (level : Level) (k : List Symbol) (s : State) (ts : List TextToken) (s' : State) → Leads (grammar level) k s ts s'
     → HasSeen (before outside k) s → HasSeen outside s'
 leads-see level _ _ _ _ (Leads.ended s) h = h
 leads-see level _ _ _ _ (Leads.word c k s t ts s' e d) h = leads-see level k (record s { last = t }) ts s' d h

@@ -9,7 +9,7 @@ use Rattle.module_grammar.specs.declared.symbols.Act.{Act}
 use Rattle.module_grammar.specs.declared.symbols.Act.TheVariants as act
 use Rattle.module_grammar.specs.declared.symbols.Symbol.{Symbol}
 use Rattle.module_grammar.specs.declared.symbols.Symbol.TheVariants as symbol
-use Rattle.module_grammar.specs.declared.state.Tok.{Tok}
+use Rattle.module_grammar.specs.declared.state.TextToken.{TextToken}
 use Rattle.module_grammar.specs.declared.state.State.{State}
 use Rattle.module_grammar.specs.Engine.{Line, first_line, line_at}
 use Rattle.module_grammar.specs.Rules.{grammar, lines}
@@ -153,7 +153,7 @@ lines-stand level rule.AfterHeld p is = form-sorted level rule.AfterHeld p refl 
 lines-stand level rule.AfterHeldColon p is = form-sorted level rule.AfterHeldColon p refl is
 lines-stand level _ p is = refl
 
-chosen-stands : (level : Level) (r : Rule) (p : Stand) (ls : List Line) (s : State) (t : Tok) (l : Line) → first_line (grammar level) ls s t ≡ Some l → StandAs r ls p
+chosen-stands : (level : Level) (r : Rule) (p : Stand) (ls : List Line) (s : State) (t : TextToken) (l : Line) → first_line (grammar level) ls s t ≡ Some l → StandAs r ls p
     → before p l.after ≡ before_rule r p
 chosen-stands level r p [] s t l is all = absurd cc
 chosen-stands level r p (x ∷ ls) s t l is all =
@@ -167,7 +167,7 @@ chosen-stands level r p (x ∷ ls) s t l is all =
     by false is first again = again is
 
 -- the line that a token begins stands where its rule does
-pub line-stands : (level : Level) (r : Rule) (p : Stand) (s : State) (t : Tok) (l : Line) (k : List Symbol) → line_at (grammar level) r s t ≡ Some l
+pub line-stands : (level : Level) (r : Rule) (p : Stand) (s : State) (t : TextToken) (l : Line) (k : List Symbol) → line_at (grammar level) r s t ≡ Some l
     → IsSomewhere (before_rule r (before p k)) → before p (l.after ++ k) ≡ before_rule r (before p k)
 line-stands level r p s t l k is there =
     before-append l.after k p ∙ chosen-stands level r (before p k) (lines level r) s t l is (lines-stand level r (before p k) there)

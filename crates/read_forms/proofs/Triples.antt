@@ -5,7 +5,7 @@ use Rattle.module_grammar.specs.declared.symbols.Rule.{Rule}
 use Rattle.module_grammar.specs.declared.symbols.Symbol.{Symbol}
 use Rattle.module_grammar.specs.declared.symbols.Symbol.TheVariants as symbol
 use Rattle.module_grammar.specs.Engine.{Line, Leads, first_line}
-use Rattle.module_grammar.specs.declared.state.Tok.{Tok}
+use Rattle.module_grammar.specs.declared.state.TextToken.{TextToken}
 use Rattle.module_grammar.specs.declared.state.State.{State}
 use Rattle.module_grammar.specs.State.{does}
 use Rattle.module_grammar.specs.Rules.{grammar, is_of, allows, may_end, lines}
@@ -27,7 +27,7 @@ pub record Triples : Type 1 where
 -- what symbols owe in a state, so that they lead to wanted states alone
 abbrev pub Owes : Triples → List Symbol → (State → Type 0) → State → Type 0
 Owes h [] Wanted s = Wanted s
-Owes h (symbol.Word c ∷ k) Wanted s = (t : Tok) → AreBytes t.text → is_of c t ≡ true → Owes h k Wanted (record s { last = t })
+Owes h (symbol.Word c ∷ k) Wanted s = (t : TextToken) → AreBytes t.text → is_of c t ≡ true → Owes h k Wanted (record s { last = t })
 Owes h (symbol.Do a ∷ k) Wanted s = IsSmall (does a s) → Owes h k Wanted (does a s)
 Owes h (symbol.Rule r ∷ k) Wanted s = h.Before r s × ((x : h.Outcome r s) → IsSmall (h.after r s x) → Owes h k Wanted (h.after r s x))
 
@@ -38,7 +38,7 @@ Reached h r s s' = (x : h.Outcome r s) × (h.after r s x ≡ s')
 -- what each of these lines owes
 abbrev pub EachOwes : Triples → List Line → (State → Type 0) → State → Type 0
 EachOwes h [] Wanted s = Unit {0}
-EachOwes h (l ∷ ls) Wanted s = ((t : Tok) → AreBytes t.text → is_of l.first t ≡ true → Owes h l.after Wanted (record s { last = t })) × EachOwes h ls Wanted s
+EachOwes h (l ∷ ls) Wanted s = ((t : TextToken) → AreBytes t.text → is_of l.first t ≡ true → Owes h l.after Wanted (record s { last = t })) × EachOwes h ls Wanted s
 
 -- the rules lead where they say
 pub record AreSound (h : Triples) (level : Level) : Type 0 where
@@ -63,7 +63,7 @@ and-first : (a b : Bool) → a && b ≡ true → a ≡ true
 and-first true b e = refl
 and-first false b e = absurd cc
 
-line-owes : (h : Triples) (level : Level) (ls : List Line) (Q : State → Type 0) (s : State) (t : Tok) (l : Line) → AreBytes t.text
+line-owes : (h : Triples) (level : Level) (ls : List Line) (Q : State → Type 0) (s : State) (t : TextToken) (l : Line) → AreBytes t.text
     → first_line (grammar level) ls s t ≡ Some l → EachOwes h ls Q s → Owes h l.after Q (record s { last = t })
 line-owes h level [] Q s t l b e o = absurd cc
 line-owes h level (x ∷ ls) Q s t l b e o =
@@ -73,11 +73,11 @@ line-owes h level (x ∷ ls) Q s t l b e o =
     subst (λ (z : Line). Owes h z.after Q (record s { last = t })) same (o.0 t b (and-first (is_of x.first t) (allows x.first s t) y)))
     (λ n. line-owes h level ls Q s t l b (subst (λ (c : Bool). cond {A = Option Line} c (Some x) (first_line (grammar level) ls s t) ≡ Some l) n e) o.1)
 
-small-before : (level : Level) (k : List Symbol) (s : State) (ts : List Tok) (s' : State) → Leads (grammar level) k s ts s' → IsSmall s' → IsSmall s
+small-before : (level : Level) (k : List Symbol) (s : State) (ts : List TextToken) (s' : State) → Leads (grammar level) k s ts s' → IsSmall s' → IsSmall s
 small-before level k s ts s' d m = let g = leads-grew level k s ts s' d in omega (arith, g.counted, m)
 
 -- where each rule is sound, what is owed is met
-pub met : (h : Triples) (level : Level) → AreSound h level → (Q : State → Type 0) (k : List Symbol) (s : State) (ts : List Tok) (s' : State)
+pub met : (h : Triples) (level : Level) → AreSound h level → (Q : State → Type 0) (k : List Symbol) (s : State) (ts : List TextToken) (s' : State)
     → Leads (grammar level) k s ts s' → HaveBytes ts → IsSmall s' → Owes h k Q s → Q s'
 met h level f Q _ _ _ _ (Leads.ended s) b m o = o
 met h level f Q _ _ _ _ (Leads.word c k s t ts s' e d) b m o =

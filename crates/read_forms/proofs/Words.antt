@@ -9,10 +9,10 @@ use Rattle.module_grammar.specs.declared.symbols.Act.TheVariants as act
 use Rattle.module_grammar.specs.declared.symbols.Rule.{Rule}
 use Rattle.module_grammar.specs.declared.symbols.Rule.TheVariants as rule
 use Rattle.module_grammar.specs.declared.symbols.Symbol.{Symbol}
-use Rattle.module_grammar.specs.declared.state.Tok.{Tok}
-use Rattle.module_grammar.specs.declared.state.Entry.{Entry}
+use Rattle.module_grammar.specs.declared.state.TextToken.{TextToken}
+use Rattle.module_grammar.specs.declared.state.DictEntry.{DictEntry}
 use Rattle.module_grammar.specs.declared.state.State.{State}
-use Rattle.module_grammar.specs.declared.state.Entry.TheVariants as entry
+use Rattle.module_grammar.specs.declared.state.DictEntry.TheVariants as entry
 use Rattle.module_grammar.specs.State.{does, entry_number, numbered_op, numbered_func, as_number, value_type}
 use Rattle.module_grammar.specs.Tokens.{type_of, payload_of}
 use Rattle.module_grammar.specs.Rules.{lines, type_then, brackets_then, is_of, is_type_kind, part, doing, dict}
@@ -72,7 +72,7 @@ no-types s = (record { types = []; written = tt; last = s.last }, ap (λ (r : Li
 -- ---- what is skipped
 
 pub brackets-then-owes : (level : Level) (s : State) (ss : List Symbol) (Q : State → Type 0)
-    → ((t : Tok) → Owes (triples level) ss Q (record s { last = t })) → EachOwes (triples level) (brackets_then ss) Q s
+    → ((t : TextToken) → Owes (triples level) ss Q (record s { last = t })) → EachOwes (triples level) (brackets_then ss) Q s
 brackets-then-owes level s ss Q f = (
   λ t b a. (tt, λ x n. λ t2 b2 a2. f t2),
   (λ t b a. (tt, λ x n. λ t2 b2 a2. f t2), (λ t b a. (tt, λ x n. λ t2 b2 a2. f t2), (λ t b a. (tt, λ x n. λ t2 b2 a2. f t2), tt))),
@@ -108,7 +108,7 @@ dict-lines level s = (
   ),
 )
 
-pub op-numbered : (level : Level) (s : State) (o : Option ℕ) (l : Tok) (e : Entry)
+pub op-numbered : (level : Level) (s : State) (o : Option ℕ) (l : TextToken) (e : DictEntry)
     → Reached (triples level) rule.OpDict s (numbered_op o (with_dict (record { last = l; entry = e; entry_at = o }) s))
 op-numbered level s None l e = (record { dict = record { last = l; entry = e; entry_at = None }; at = s.op.at; fits = λ h. h }, refl)
 op-numbered level s (Some n) l e = (record { dict = record { last = l; entry = e; entry_at = Some n }; at = as_number n; fits = λ h. omega arith }, refl)
@@ -124,7 +124,7 @@ dict-owes level s ss Q f = λ n. (
       let r = op-numbered level s x.entry_at x.last x.entry in subst (λ (z : State). Owes (triples level) ss Q z) r.1 (f r.0),
 )
 
-func-numbered : (level : Level) (s : State) (o : Option ℕ) (l : Tok) (e : Entry)
+func-numbered : (level : Level) (s : State) (o : Option ℕ) (l : TextToken) (e : DictEntry)
     → Reached (triples level) rule.FuncAttributes s (numbered_func o (with_dict (record { last = l; entry = e; entry_at = o }) s))
 func-numbered level s None l e = (record { dict = record { last = l; entry = e; entry_at = None }; at = s.func.at; fits = λ h. h }, refl)
 func-numbered level s (Some n) l e = (record { dict = record { last = l; entry = e; entry_at = Some n }; at = as_number n; fits = λ h. omega arith }, refl)

@@ -13,7 +13,7 @@ use Rattle.ir_forms.specs.declared.types.Dim.{Dim}
 use Rattle.ir_forms.specs.declared.types.Dim.TheVariants.{Fixed, Dynamic}
 use Rattle.module_grammar.specs.declared.types.DimSoFar.{DimSoFar}
 use Rattle.module_grammar.specs.declared.types.DimSoFar.TheVariants as so_far
-use Rattle.module_grammar.specs.declared.state.Tok.{Tok}
+use Rattle.module_grammar.specs.declared.state.TextToken.{TextToken}
 use Rattle.module_grammar.specs.Tokens.{is_blank, is_digit, among, widths, cells, grown, shaped, memref_of, memref_type, number_type, bang_types, type_of_kind, type_of, payload_of_type, payload_of}
 use Rattle.module_grammar.specs.State.{value_type}
 use Rattle.mlir_print.specs.Printable.{IsWrittenDim, AreWrittenDims, IsWrittenMemref, IsWritten}
@@ -77,7 +77,7 @@ of-kind-written kind.BangName text = bang-written text
 of-kind-written kind.Memref text = shape-written (memref_type text) (memref-type-written text)
 of-kind-written _ text = tt
 
-type-of-written : (t : Tok) → IfThere IsWritten (type_of t)
+type-of-written : (t : TextToken) → IfThere IsWritten (type_of t)
 unfolding type_of
 type-of-written t = of-kind-written t.kind t.text
 
@@ -85,7 +85,7 @@ there : (o : Option Ty) (d : Ty) → IfThere IsWritten o → is_some o ≡ true 
 there None d h e = absurd cc
 there (Some t) d h e = h
 
-pub type-written : (t : Tok) → is_some (type_of t) ≡ true → IsWritten (unwrap_or (type_of t) ty.Untyped)
+pub type-written : (t : TextToken) → is_some (type_of t) ≡ true → IsWritten (unwrap_or (type_of t) ty.Untyped)
 type-written t e = there (type_of t) ty.Untyped (type-of-written t) e
 
 payload-there : (o : Option Ty) → IfThere IsWritten o → is_some (payload_of_type o) ≡ true → IsWritten (value_type (payload_of_type o))
@@ -94,5 +94,5 @@ payload-there (Some ty.Index) h e = tt
 payload-there (Some (ty.Memref m)) h e = h
 payload-there _ h e = absurd cc
 
-pub payload-written : (t : Tok) → is_some (payload_of t) ≡ true → IsWritten (value_type (payload_of t))
+pub payload-written : (t : TextToken) → is_some (payload_of t) ≡ true → IsWritten (value_type (payload_of t))
 payload-written t e = payload-there (type_of t) (type-of-written t) e

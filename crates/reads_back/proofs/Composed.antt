@@ -4,17 +4,17 @@ use Rattle.mlir_lex.specs.declared.kinds.Token.{Token}
 use Rattle.mlir_lex.specs.declared.kinds.TokenKind.TheVariants.{End}
 use Rattle.mlir_lex.specs.Laws.{OneReading}
 use Rattle.ir_forms.specs.declared.ops.Module.{Module}
-use Rattle.module_grammar.specs.declared.state.Tok.{Tok}
+use Rattle.module_grammar.specs.declared.state.TextToken.{TextToken}
 use Rattle.module_grammar.specs.declared.state.State.{State}
 use Rattle.module_grammar.specs.Faults.{IsWithin}
 use Rattle.mlir_print.specs.Printed.{module_doc, printed}
 use Rattle.mlir_print.specs.Spelled.{spelled, words_of, ReadsAsSpelled, TakesWords}
 use Rattle.mlir_print.specs.Printable.{AreBytes}
 use Rattle.mlir_print.specs.Depth.{depth_of}
-use Rattle.mlir_text.specs.Tokens.{toks_behind, toks_of}
+use Rattle.mlir_text.specs.Tokens.{text_tokens_behind, text_tokens_of}
 use Rattle.mlir_text.specs.Texts.{ReadsTexts}
 use Rattle.read_forms.specs.Reads.{HaveBytes, ReadsPrintable}
-use Rattle.round_trip.specs.GivesBack.{toks, IsSmall, IsSmallText, GivesBack}
+use Rattle.round_trip.specs.GivesBack.{text_tokens, IsSmall, IsSmallText, GivesBack}
 use Rattle.read_forms.specs.Depths.{ReadsDepth, SeesNoDeeper}
 use Rattle.print_laws.specs.Bytes.{IsPlainText, HasFewTokens}
 use Rattle.reads_back.specs.ReadsBack.{widest, PrintsBack, ReadsBack}
@@ -22,7 +22,7 @@ use Rattle.reads_back.proofs.Spread.{Spread, spread}
 
 -- ---- the printed text stands for the module
 
-as-many : (text : List ℕ) (end : Option ℕ) (tokens : List Token) → length (toks_behind text end tokens) ≡ length tokens
+as-many : (text : List ℕ) (end : Option ℕ) (tokens : List Token) → length (text_tokens_behind text end tokens) ≡ length tokens
 as-many text end [] = refl
 as-many text end (t ∷ ts) = ap suc (as-many text (Some t.end) ts)
 
@@ -52,17 +52,17 @@ pub stands-for : Known → PrintsBack
 stands-for k level m printable shallow short =
     (ts, (spelled m, (k.is_plain_text m, (k.one_reading (printed m) (Ok (spelled m))).1 (k.reads_as_spelled m)), refl), (g.0, g.1, g.2, within g.0 (length ts) (length (printed m)) (depth_of m) g.3 deep many short shallow))
   where
-    ts : List Tok
-    ts = toks_of (printed m) (spelled m)
+    ts : List TextToken
+    ts = text_tokens_of (printed m) (spelled m)
 
     s : Spread (printed m) None (spelled m) 0
     s = spread (printed m) None (spelled m) 0
 
-    same : toks s.at s.joined 0 (words_of (module_doc m) ++ (End, []) ∷ []) ≡ ts
-    same = ap (toks s.at s.joined 0) (sym (k.takes_words m)) ∙ s.same
+    same : text_tokens s.at s.joined 0 (words_of (module_doc m) ++ (End, []) ∷ []) ≡ ts
+    same = ap (text_tokens s.at s.joined 0) (sym (k.takes_words m)) ∙ s.same
 
     g : IsSmallText level ts m
-    g = subst (λ (l : List Tok). IsSmallText level l m) same (k.gives_back level m s.at s.joined printable)
+    g = subst (λ (l : List TextToken). IsSmallText level l m) same (k.gives_back level m s.at s.joined printable)
 
     deep : g.0.deepest ≤ depth_of m
     deep = subst (λ (n : Module). g.0.deepest ≤ depth_of n) (sym g.2) (k.sees_no_deeper level ts g.0 g.1)
@@ -82,7 +82,7 @@ bytes-behind zero bs are = are
 bytes-behind (suc n) [] are = tt
 bytes-behind (suc n) (b ∷ bs) are = bytes-behind n bs are.1
 
-pub bytes-of-tokens : (text : List ℕ) (end : Option ℕ) (tokens : List Token) → AreBytes text → HaveBytes (toks_behind text end tokens)
+pub bytes-of-tokens : (text : List ℕ) (end : Option ℕ) (tokens : List Token) → AreBytes text → HaveBytes (text_tokens_behind text end tokens)
 bytes-of-tokens text end [] are = tt
 bytes-of-tokens text end (t ∷ ts) are = (bytes-of-front (t.end - t.start) (drop t.start text) (bytes-behind t.start text are), bytes-of-tokens text (Some t.end) ts are)
 

@@ -5,8 +5,8 @@ use Rattle.std.proofs.lemmas.Bool.Decides.{eqb_tells}
 use Rattle.mlir_lex.specs.declared.kinds.TokenKind.{TokenKind}
 use Rattle.mlir_lex.specs.declared.kinds.Token.{Token}
 use Rattle.mlir_print.specs.Spelled.{word_at}
-use Rattle.mlir_text.specs.Tokens.{is_at, toks_behind}
-use Rattle.round_trip.specs.GivesBack.{toks}
+use Rattle.mlir_text.specs.Tokens.{is_at, text_tokens_behind}
+use Rattle.round_trip.specs.GivesBack.{text_tokens}
 
 -- what a number has, and what the others have
 abbrev at_first : {A : Type 0} → ℕ → A → (ℕ → A) → ℕ → A
@@ -20,7 +20,7 @@ later-is n x f i later = ⊎_elim (λ e. let same = e.1 in absurd (omega (arith,
 
 -- tokens depend on the numbers from the first on alone
 alike : (at at' : ℕ → ℕ) (joined joined' : ℕ → Bool) (n : ℕ) (ws : List (TokenKind × List ℕ)) → ((i : ℕ) → n ≤ i → at i ≡ at' i) → ((i : ℕ) → n ≤ i → joined i ≡ joined' i)
-    → toks at joined n ws ≡ toks at' joined' n ws
+    → text_tokens at joined n ws ≡ text_tokens at' joined' n ws
 alike at at' joined joined' n [] same likewise = refl
 alike at at' joined joined' n (w ∷ ws) same likewise =
     rw (same n (le_refl n), likewise n (le_refl n), alike at at' joined joined' (n + 1) ws (λ i later. same i (omega (arith, later))) (λ i later. likewise i (omega (arith, later)))) refl
@@ -28,7 +28,7 @@ alike at at' joined joined' n (w ∷ ws) same likewise =
 pub record Spread (text : List ℕ) (end : Option ℕ) (tokens : List Token) (n : ℕ) : Type 0 where
   pub at : ℕ → ℕ
   pub joined : ℕ → Bool
-  pub same : toks at joined n (map (word_at text) tokens) ≡ toks_behind text end tokens
+  pub same : text_tokens at joined n (map (word_at text) tokens) ≡ text_tokens_behind text end tokens
 
 pub spread : (text : List ℕ) (end : Option ℕ) (tokens : List Token) (n : ℕ) → Spread text end tokens n
 spread text end [] n = record { at = λ i. 0; joined = λ i. false; same = refl }

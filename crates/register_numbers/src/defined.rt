@@ -4,10 +4,9 @@ ghost use Rattle.ir_forms.specs.Numbers.{joined};
 ghost use Rattle.low_forms.specs.Assigned.{numbers, assigned_by, block_assigns};
 ghost use Rattle.register_numbers.specs.Renumbered.{definitions, type_of_reg};
 
-use ir_forms::Ty;
+use ir_forms::{Ty, copy_type};
 use lists::Items;
 use low_forms::{Block, Instr, LowFunc, Reg};
-use made_ops::copy_type;
 use std::alloc::{AllocError, Global};
 
 fn collect_regs(regs: &[Reg], defined: &mut Vec<u64>) -> Result<(), AllocError>

@@ -7,13 +7,13 @@ use Rattle.ir_forms.specs.declared.types.Ty.{Ty}
 use Rattle.ir_forms.specs.declared.ops.ValueNo.{ValueNo}
 use Rattle.module_grammar.specs.declared.symbols.Act.{Act}
 use Rattle.module_grammar.specs.declared.symbols.Act.TheVariants as act
-use Rattle.module_grammar.specs.declared.state.Tok.{Tok}
+use Rattle.module_grammar.specs.declared.state.TextToken.{TextToken}
 use Rattle.module_grammar.specs.declared.state.Name.{Name}
 use Rattle.module_grammar.specs.declared.state.Param.{Param}
 use Rattle.module_grammar.specs.declared.state.OpenOp.{OpenOp}
 use Rattle.module_grammar.specs.declared.state.Outer.{Outer}
-use Rattle.module_grammar.specs.declared.state.Entry.{Entry}
-use Rattle.module_grammar.specs.declared.state.Entry.TheVariants as entry
+use Rattle.module_grammar.specs.declared.state.DictEntry.{DictEntry}
+use Rattle.module_grammar.specs.declared.state.DictEntry.TheVariants as entry
 use Rattle.module_grammar.specs.declared.state.State.{State}
 use Rattle.module_grammar.specs.Tokens.{is_number_kind, number_of, type_of}
 
@@ -71,17 +71,17 @@ take-map f (suc n) (x ∷ xs) = ap (λ l. f x ∷ l) (take-map f n xs)
 
 -- ---- the acts
 
-add-operands-core : (ts : List Tok) (s : State) → core (add_operands ts s) ≡ all_operands (map text_of ts) (core s)
+add-operands-core : (ts : List TextToken) (s : State) → core (add_operands ts s) ≡ all_operands (map text_of ts) (core s)
 add-operands-core [] s = refl
 add-operands-core (t ∷ ts) s = add-operands-core ts (add_operand t s) ∙ ap (λ (c : Core). all_operands (map text_of ts) c) (one t s)
   where
-    one : (t : Tok) (s : State) → core (add_operand t s) ≡ one_operand t.text (core s)
+    one : (t : TextToken) (s : State) → core (add_operand t s) ≡ one_operand t.text (core s)
     one t s = rw resolved-bare refl
 
-result-core : (t : Tok) (s : State) → core (add_result t s) ≡ one_result t.text (core s)
+result-core : (t : TextToken) (s : State) → core (add_result t s) ≡ one_result t.text (core s)
 result-core t s = rw map-append refl
 
-add-results-core : (ts : List Tok) (s : State) → core (add_results ts s) ≡ all_results (map text_of ts) (core s)
+add-results-core : (ts : List TextToken) (s : State) → core (add_results ts s) ≡ all_results (map text_of ts) (core s)
 add-results-core [] s = refl
 add-results-core (t ∷ ts) s = add-results-core ts (add_result t s) ∙ ap (λ (c : Core). all_results (map text_of ts) c) (result-core t s)
 
@@ -102,11 +102,11 @@ unfolding does
 func-numbered-core None s = refl
 func-numbered-core (Some n) s = refl
 
-entry-chosen : (b : Bool) (x y z : Entry) → bare_entry x ≡ bare_entry y → bare_entry (cond b x z) ≡ bare_entry (cond b y z)
+entry-chosen : (b : Bool) (x y z : DictEntry) → bare_entry x ≡ bare_entry y → bare_entry (cond b x z) ≡ bare_entry (cond b y z)
 entry-chosen true x y z e = e
 entry-chosen false x y z e = refl
 
-entry-core : (e : Entry) (t : Tok) → bare_entry (entry_after e t) ≡ bare_entry (entry_after (bare_entry e) (token_of (spoken t)))
+entry-core : (e : DictEntry) (t : TextToken) → bare_entry (entry_after e t) ≡ bare_entry (entry_after (bare_entry e) (token_of (spoken t)))
 unfolding number_of
 entry-core entry.Fresh t = refl
 entry-core entry.Keyed t = refl
@@ -116,7 +116,7 @@ entry-core (entry.Typed n at) t = entry-chosen (bytes_eq t.text (codes "i64")) _
 entry-core (entry.Whole n at) t = refl
 entry-core entry.Other t = refl
 
-entry-number-core : (e : Entry) (n : Option ℕ) → entry_number e n ≡ entry_number (bare_entry e) n
+entry-number-core : (e : DictEntry) (n : Option ℕ) → entry_number e n ≡ entry_number (bare_entry e) n
 entry-number-core (entry.Whole m at) n = refl
 entry-number-core _ n = refl
 

@@ -7,7 +7,7 @@ use Rattle.module_grammar.specs.declared.symbols.Rule.{Rule}
 use Rattle.module_grammar.specs.declared.symbols.Rule.TheVariants as rule
 use Rattle.module_grammar.specs.declared.symbols.Act.{Act}
 use Rattle.module_grammar.specs.declared.symbols.Act.TheVariants as act
-use Rattle.module_grammar.specs.declared.state.Tok.{Tok}
+use Rattle.module_grammar.specs.declared.state.TextToken.{TextToken}
 use Rattle.module_grammar.specs.declared.state.Outer.{Outer}
 use Rattle.module_grammar.specs.declared.state.State.{State}
 use Rattle.module_grammar.specs.Engine.{Leads}
@@ -29,11 +29,11 @@ abbrev pub begins_func : Act → ℕ
 begins_func act.BeginFunc = 1
 begins_func _ = 0
 
-operands-keep : (ts : List Tok) (s : State) → ((add_operands ts s).begun ≡ s.begun) × ((add_operands ts s).functions ≡ s.functions)
+operands-keep : (ts : List TextToken) (s : State) → ((add_operands ts s).begun ≡ s.begun) × ((add_operands ts s).functions ≡ s.functions)
 operands-keep [] s = (refl, refl)
 operands-keep (t ∷ ts) s = operands-keep ts (add_operand t s)
 
-results-keep : (ts : List Tok) (s : State) → ((add_results ts s).begun ≡ s.begun) × ((add_results ts s).functions ≡ s.functions)
+results-keep : (ts : List TextToken) (s : State) → ((add_results ts s).begun ≡ s.begun) × ((add_results ts s).functions ≡ s.functions)
 results-keep [] s = (refl, refl)
 results-keep (t ∷ ts) s = results-keep ts (add_result t s)
 
@@ -110,10 +110,10 @@ begins-func-light Split rule.Form = refl
 begins-func-light Low rule.Form = refl
 begins-func-light level _ = refl
 
-pub few-operations : (level : Level) (s : State) (ts : List Tok) → Leads (grammar level) whole at_start ts s → s.begun < length ts
+pub few-operations : (level : Level) (s : State) (ts : List TextToken) → Leads (grammar level) whole at_start ts s → s.begun < length ts
 few-operations level s ts d =
     let h = raised-by (λ x. x.begun) begins act-begins (λ t x. refl) level (begins-light level) whole at_start ts s d in omega (arith, h)
 
-pub few-functions : (level : Level) (s : State) (ts : List Tok) → Leads (grammar level) whole at_start ts s → s.functions < length ts
+pub few-functions : (level : Level) (s : State) (ts : List TextToken) → Leads (grammar level) whole at_start ts s → s.functions < length ts
 few-functions level s ts d =
     let h = raised-by (λ x. x.functions) begins_func act-begins-func (λ t x. refl) level (begins-func-light level) whole at_start ts s d in omega (arith, h)

@@ -13,15 +13,15 @@ use Rattle.ir_forms.specs.declared.ops.Region.{roll-Region}
 use Rattle.ir_forms.specs.declared.ops.Func.{Func}
 use Rattle.module_grammar.specs.declared.symbols.Act.{Act}
 use Rattle.module_grammar.specs.declared.symbols.Act.TheVariants as act
-use Rattle.module_grammar.specs.declared.state.Tok.{Tok}
+use Rattle.module_grammar.specs.declared.state.TextToken.{TextToken}
 use Rattle.module_grammar.specs.declared.state.Name.{Name}
 use Rattle.module_grammar.specs.declared.state.Param.{Param}
 use Rattle.module_grammar.specs.declared.state.OpenOp.{OpenOp}
 use Rattle.module_grammar.specs.declared.state.OpenBody.{OpenBody}
 use Rattle.module_grammar.specs.declared.state.Outer.{Outer}
 use Rattle.module_grammar.specs.declared.state.OpenFunc.{OpenFunc}
-use Rattle.module_grammar.specs.declared.state.Entry.{Entry}
-use Rattle.module_grammar.specs.declared.state.Entry.TheVariants as entry
+use Rattle.module_grammar.specs.declared.state.DictEntry.{DictEntry}
+use Rattle.module_grammar.specs.declared.state.DictEntry.TheVariants as entry
 use Rattle.module_grammar.specs.declared.state.State.{State}
 use Rattle.module_grammar.specs.Tokens.{type_of, payload_of, predicate_of, symbol_of, string_of}
 use Rattle.module_grammar.specs.State.{up, number_up, as_number, resolved, no_op, no_body, no_func, param_names, param_value, last_typed, typed_by, first_type, element_type, payload_types, value_type, is_true, body_ops, left_out, with_made, begun_with, op_of, entry_after, entry_number, last_of, without_last, literal, ungrouped, region_of}
@@ -32,10 +32,10 @@ use Rattle.module_grammar.specs.State.{up, number_up, as_number, resolved, no_op
 abbrev pub Word : Type 0
 Word = TokenKind × List ℕ
 
-abbrev pub spoken : Tok → Word
+abbrev pub spoken : TextToken → Word
 spoken t = (t.kind, t.text)
 
-abbrev pub token_of : Word → Tok
+abbrev pub token_of : Word → TextToken
 token_of w = record { kind = w.0; text = w.1; at = 0; joined = false }
 
 abbrev pub bare : Name → Name
@@ -56,7 +56,7 @@ bare_outer u = record { op = bare_op u.op; body = bare_body u.body }
 abbrev pub bare_func : OpenFunc → OpenFunc
 bare_func f = record f { params = map bare_param f.params }
 
-abbrev pub bare_entry : Entry → Entry
+abbrev pub bare_entry : DictEntry → DictEntry
 bare_entry (entry.Numbered n at) = entry.Numbered n 0
 bare_entry (entry.Typed n at) = entry.Typed n 0
 bare_entry (entry.Whole n at) = entry.Whole n 0
@@ -65,7 +65,7 @@ bare_entry e = e
 -- what later tokens replace: the last token, and the dictionary's entry
 pub record Passing : Type 0 where
   pub last : Word
-  pub entry : Entry
+  pub entry : DictEntry
   pub entry_at : Option ℕ
 
 pub record Core : Type 0 where
@@ -81,7 +81,7 @@ pub record Core : Type 0 where
   pub func : OpenFunc
   pub funcs : List Func
 
-abbrev pub text_of : Tok → List ℕ
+abbrev pub text_of : TextToken → List ℕ
 text_of t = t.text
 
 abbrev pub core : State → Core
@@ -104,8 +104,8 @@ core s = record {
 abbrev pub said : Word → Core → Core
 said w c = record c { passing = record (c.passing) { last = w } }
 
-abbrev pub last_tok : Core → Tok
-last_tok c = token_of c.passing.last
+abbrev pub last_token : Core → TextToken
+last_token c = token_of c.passing.last
 
 abbrev pub with_op : Core → OpenOp → Core
 with_op c o = record c { op = o }
@@ -199,7 +199,7 @@ done act.BeginFunc c = record c {
   body = no_body;
   outer = [];
 }
-done act.FuncName c = record c { func = record (c.func) { name = symbol_of (last_tok c) } }
+done act.FuncName c = record c { func = record (c.func) { name = symbol_of (last_token c) } }
 done act.FuncResults c = record c { func = record (c.func) { results = c.read }; read = [] }
 done act.FuncAt c = func_numbered c.passing.entry_at c
 done act.OpenBody c = record c {
@@ -240,8 +240,8 @@ done act.BlockParamType c = record c { body = record (c.body) { params = last_ty
 done act.PayloadParam c = with_op c (record (c.op) { params = last_typed c.op.params (first_type (payload_types (first_type c.read))) })
 done act.ResultParams c = with_op c (record (c.op) { params = typed_by c.op.params c.op.types })
 done act.WrittenParams c = with_op c (record (c.op) { params = typed_by c.op.params c.op.written })
-done act.PlainType c = record c { read = c.read ++ unwrap_or (type_of (last_tok c)) ty.Untyped ∷ [] }
-done act.ValueType c = record c { read = c.read ++ value_type (payload_of (last_tok c)) ∷ [] }
+done act.PlainType c = record c { read = c.read ++ unwrap_or (type_of (last_token c)) ty.Untyped ∷ [] }
+done act.ValueType c = record c { read = c.read ++ value_type (payload_of (last_token c)) ∷ [] }
 done act.Written c = more_written c.read c
 done act.Twice c = more_written (c.read ++ c.read) c
 done act.SameTypes c = more_types c.read (more_written (c.read ++ c.read) c)
@@ -251,13 +251,13 @@ done act.IndexResult c = more_types (ty.Index ∷ []) c
 done act.TokenResult c = more_types (ty.Token ∷ []) c
 done act.ElementResult c = more_types (element_type (first_type c.read) ∷ []) c
 done act.PayloadResult c = more_types (payload_types (first_type c.read)) c
-done act.Literal c = with_attr (literal false (last_tok c)) c
-done act.Negative c = with_attr (literal true (last_tok c)) c
+done act.Literal c = with_attr (literal false (last_token c)) c
+done act.Negative c = with_attr (literal true (last_token c)) c
 done act.Truth c = with_attr (attr.Truth (is_true c.passing.last.1)) c
-done act.Predicate c = with_attr (attr.Pred (unwrap_or (predicate_of (last_tok c)) Eq)) c
+done act.Predicate c = with_attr (attr.Pred (unwrap_or (predicate_of (last_token c)) Eq)) c
 done act.Message c = with_attr (attr.Text (string_of c.passing.last.1)) c
-done act.Callee c = with_attr (attr.Callee (symbol_of (last_tok c))) c
+done act.Callee c = with_attr (attr.Callee (symbol_of (last_token c))) c
 done act.BeginDict c = record c { passing = record (c.passing) { entry = entry.Fresh; entry_at = None } }
-done act.Entry c = record c { passing = record (c.passing) { entry = bare_entry (entry_after c.passing.entry (last_tok c)) } }
+done act.Entry c = record c { passing = record (c.passing) { entry = bare_entry (entry_after c.passing.entry (last_token c)) } }
 done act.EndEntry c = record c { passing = record (c.passing) { entry = entry.Fresh; entry_at = entry_number c.passing.entry c.passing.entry_at } }
 done _ c = c

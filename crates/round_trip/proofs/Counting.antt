@@ -6,7 +6,7 @@ use Rattle.module_grammar.specs.declared.symbols.Act.{Act}
 use Rattle.module_grammar.specs.declared.symbols.Act.TheVariants as act
 use Rattle.module_grammar.specs.declared.symbols.Symbol.{Symbol}
 use Rattle.module_grammar.specs.declared.symbols.Symbol.TheVariants as symbol
-use Rattle.module_grammar.specs.declared.state.Tok.{Tok}
+use Rattle.module_grammar.specs.declared.state.TextToken.{TextToken}
 use Rattle.module_grammar.specs.declared.state.Name.{Name}
 use Rattle.module_grammar.specs.declared.state.Outer.{Outer}
 use Rattle.module_grammar.specs.declared.state.State.{State}
@@ -107,23 +107,23 @@ with-names-le : (ns : List Name) (n : ℕ) → with_names n ns ≤ n + values_na
 with-names-le [] n = omega arith
 with-names-le (x ∷ ns) n = let h = with-names-le ns (up n (count_of x.count)) in omega (arith, h)
 
-operands-counted : (ts : List Tok) (s : State) → (add_operands ts s).counted ≤ s.counted + length ts
+operands-counted : (ts : List TextToken) (s : State) → (add_operands ts s).counted ≤ s.counted + length ts
 operands-counted [] s = omega arith
 operands-counted (t ∷ ts) s = let h = operands-counted ts (add_operand t s) in omega (arith, h)
 
-operands-held : (ts : List Tok) (s : State) → (add_operands ts s).held ≡ s.held
+operands-held : (ts : List TextToken) (s : State) → (add_operands ts s).held ≡ s.held
 operands-held [] s = refl
 operands-held (t ∷ ts) s = operands-held ts (add_operand t s)
 
-results-counted : (ts : List Tok) (s : State) → (add_results ts s).counted ≡ s.counted
+results-counted : (ts : List TextToken) (s : State) → (add_results ts s).counted ≡ s.counted
 results-counted [] s = refl
 results-counted (t ∷ ts) s = results-counted ts (add_result t s)
 
-results-held : (ts : List Tok) (s : State) → (add_results ts s).held ≡ s.held
+results-held : (ts : List TextToken) (s : State) → (add_results ts s).held ≡ s.held
 results-held [] s = refl
 results-held (t ∷ ts) s = results-held ts (add_result t s)
 
-results-named : (ts : List Tok) (s : State) → values_named (add_results ts s).op.results ≡ values_named s.op.results + length ts
+results-named : (ts : List TextToken) (s : State) → values_named (add_results ts s).op.results ≡ values_named s.op.results + length ts
 results-named [] s = omega arith
 results-named (t ∷ ts) s =
     let h = results-named ts (add_result t s) in
@@ -148,7 +148,7 @@ held-results : (p : Bool) (s : State) → named p (add_results s.held (begin_op 
 held-results p s =
     let before : State = begin_op (end_op (record s { held = [] })) in
     let counted = results-counted s.held before in
-    let held = ap (λ (l : List Tok). length l) (results-held s.held before) in
+    let held = ap (λ (l : List TextToken). length l) (results-held s.held before) in
     by p counted held (results-named s.held before)
   where
     by : (p : Bool) → (add_results s.held (begin_op (end_op (record s { held = [] })))).counted ≡ s.counted
@@ -161,7 +161,7 @@ held-results p s =
 held-operands : (s : State) → named false (add_operands s.held (record s { held = [] })) ≤ 0 + named false s
 held-operands s =
     let counted = operands-counted s.held (record s { held = [] }) in
-    let held = ap (λ (l : List Tok). length l) (operands-held s.held (record s { held = [] })) in
+    let held = ap (λ (l : List TextToken). length l) (operands-held s.held (record s { held = [] })) in
     omega (arith, counted, held)
 
 -- an act names no more than its number

@@ -11,16 +11,16 @@ use Rattle.module_grammar.specs.declared.symbols.Act.{Act}
 use Rattle.module_grammar.specs.declared.symbols.Act.TheVariants as acts
 use Rattle.module_grammar.specs.declared.symbols.Symbol.{Symbol}
 use Rattle.module_grammar.specs.declared.symbols.Symbol.TheVariants as symbol
-use Rattle.module_grammar.specs.declared.state.Tok.{Tok}
+use Rattle.module_grammar.specs.declared.state.TextToken.{TextToken}
 use Rattle.module_grammar.specs.declared.state.Name.{Name}
-use Rattle.module_grammar.specs.declared.state.Entry.{Entry}
-use Rattle.module_grammar.specs.declared.state.Entry.TheVariants as entry
+use Rattle.module_grammar.specs.declared.state.DictEntry.{DictEntry}
+use Rattle.module_grammar.specs.declared.state.DictEntry.TheVariants as entry
 use Rattle.module_grammar.specs.declared.state.State.{State}
 use Rattle.module_grammar.specs.Engine.{Line, Leads, line_at, first_line}
 use Rattle.module_grammar.specs.State.{is_named, is_wide, param_names, module_of, does}
 use Rattle.module_grammar.specs.Tokens.{number_of, type_of, is_number_kind, is_up_to, predicate_of, payload_of, is_memref_type, is_group_type, is_truth_type, word_of, is_name_of}
 use Rattle.module_grammar.specs.Rules.{grammar, lines, may_end, is_of, allows, is_hash_name, none_named, are_distinct, holds_text, are_new, is_byte, is_arrow, is_name, is_symbol, is_string, is_value_name, is_type_kind, is_bang_name, is_block_name, is_inner, is_end}
-use Rattle.round_trip.specs.GivesBack.{toks}
+use Rattle.round_trip.specs.GivesBack.{text_tokens}
 use Rattle.round_trip.proofs.Core.{Word, spoken, token_of, bare, bare_entry, Passing, Core, text_of, core, said, done}
 use Rattle.round_trip.proofs.Counting.{counts_values}
 use Rattle.round_trip.proofs.Named.{CountsNone}
@@ -107,22 +107,22 @@ named-bare : (ns : List Name) (text : List ℕ) → is_named (map bare ns) text 
 named-bare [] text = refl
 named-bare (n ∷ ns) text = ap (λ (b : Bool). bytes_eq n.text text || b) (named-bare ns text)
 
-none-bare : (ns : List Name) (ts : List Tok) → none_of (map bare ns) (map text_of ts) ≡ none_named ns ts
+none-bare : (ns : List Name) (ts : List TextToken) → none_of (map bare ns) (map text_of ts) ≡ none_named ns ts
 none-bare ns [] = refl
 none-bare ns (t ∷ ts) = rw (named-bare, none-bare ns ts) refl
 
-holds-bare : (ts : List Tok) (text : List ℕ) → holds (map text_of ts) text ≡ holds_text ts text
+holds-bare : (ts : List TextToken) (text : List ℕ) → holds (map text_of ts) text ≡ holds_text ts text
 holds-bare [] text = refl
 holds-bare (t ∷ ts) text = ap (λ (b : Bool). bytes_eq t.text text || b) (holds-bare ts text)
 
-distinct-bare : (ts : List Tok) → all_distinct (map text_of ts) ≡ are_distinct ts
+distinct-bare : (ts : List TextToken) → all_distinct (map text_of ts) ≡ are_distinct ts
 distinct-bare [] = refl
 distinct-bare (t ∷ ts) = ap₂ (λ (a b : Bool). not a && b) (holds-bare ts t.text) (distinct-bare ts)
 
-new-bare : (s : State) (ts : List Tok) → all_new (core s) (map text_of ts) ≡ are_new s ts
+new-bare : (s : State) (ts : List TextToken) → all_new (core s) (map text_of ts) ≡ are_new s ts
 new-bare s ts = rw (none-bare, none-bare, distinct-bare) refl
 
-wide-bare : (e : Entry) → is_wide (bare_entry e) ≡ is_wide e
+wide-bare : (e : DictEntry) → is_wide (bare_entry e) ≡ is_wide e
 wide-bare entry.Fresh = refl
 wide-bare entry.Keyed = refl
 wide-bare entry.Equated = refl
@@ -132,7 +132,7 @@ wide-bare (entry.Whole (Some n) at) = refl
 wide-bare (entry.Whole None at) = refl
 wide-bare entry.Other = refl
 
-grants-core : (a : Class) (s : State) (t : Tok) → grants a (core s) (spoken t) ≡ allows a s t
+grants-core : (a : Class) (s : State) (t : TextToken) → grants a (core s) (spoken t) ≡ allows a s t
 unfolding allows
 grants-core class.Param s t = rw (param-names-bare, ← map-append bare s.visible (param_names s.op.params), named-bare) refl
 grants-core class.Result s t = rw (← map-append bare s.visible s.op.results, named-bare) refl
@@ -142,7 +142,7 @@ grants-core class.EntryComma s t = ap not (wide-bare s.entry)
 grants-core class.EntryClose s t = ap not (wide-bare s.entry)
 grants-core _ s t = refl
 
-of-core : (a : Class) (t : Tok) → is_hash_name t.kind ≡ false → of_word a (spoken t) ≡ is_of a t
+of-core : (a : Class) (t : TextToken) → is_hash_name t.kind ≡ false → of_word a (spoken t) ≡ is_of a t
 unfolding is_of number_of type_of
 of-core class.Index t n = rw n refl
 of-core _ t n = refl
@@ -156,12 +156,12 @@ chosen false l e = e
 no-hash : (b : Bool) → b ≡ false → (x : Bool) → not b && x ≡ x
 no-hash b e x = rw e refl
 
-accepts-core : (a : Class) (s : State) (t : Tok) → is_hash_name t.kind ≡ false
+accepts-core : (a : Class) (s : State) (t : TextToken) → is_hash_name t.kind ≡ false
     → fits a (core s) (spoken t) ≡ (is_of a t && allows a s t)
 accepts-core a s t n =
     no-hash (is_hash_name t.kind) n _ ∙ ap₂ (λ (x y : Bool). x && y) (of-core a t n) (grants-core a s t)
 
-first-core : (level : Level) (ls : List Line) (s : State) (t : Tok) → is_hash_name t.kind ≡ false
+first-core : (level : Level) (ls : List Line) (s : State) (t : TextToken) → is_hash_name t.kind ≡ false
     → first_fit ls (core s) (spoken t) ≡ first_line (grammar level) ls s t
 first-core level [] s t n = refl
 first-core level (l ∷ ls) s t n =
@@ -173,7 +173,7 @@ first-hash : (ls : List Line) (c : Core) (w : Word) → is_hash_name w.0 ≡ tru
 first-hash [] c w h = refl
 first-hash (l ∷ ls) c w h = rw h (first-hash ls c w h)
 
-pub line-core : (level : Level) (r : Rule) (l : Line) (s : State) (t : Tok)
+pub line-core : (level : Level) (r : Rule) (l : Line) (s : State) (t : TextToken)
     → line_on level r (core s) (spoken t) ≡ Some l → line_at (grammar level) r s t ≡ Some l
 line-core level r l s t e =
     by_test (is_hash_name t.kind)
@@ -192,13 +192,13 @@ not-true : (b : Bool) → not b ≡ true → b ≡ false
 not-true true e = absurd cc
 not-true false e = refl
 
-pub misses-core : (level : Level) (r : Rule) (s : State) (t : Tok)
+pub misses-core : (level : Level) (r : Rule) (s : State) (t : TextToken)
     → (not (is_hash_name t.kind) && is_none (line_on level r (core s) (spoken t)) ≡ true) → line_at (grammar level) r s t ≡ None
 misses-core level r s t e =
     let b = and-both _ _ e in
     sym (first-core level (lines level r) s t (not-true _ b.0)) ∙ none-is _ b.1
 
-pub fits-core : (level : Level) (a : Class) (s : State) (t : Tok) → fits a (core s) (spoken t) ≡ true
+pub fits-core : (level : Level) (a : Class) (s : State) (t : TextToken) → fits a (core s) (spoken t) ≡ true
     → (is_of a t && allows a s t) ≡ true
 fits-core level a s t e =
     by_test (is_hash_name t.kind)
@@ -215,7 +215,7 @@ counts-none _ e = refl
 -- stands the module.
 pub record Runs (level : Level) (m : Module) (k : List Symbol) (c : Core) (ws : List Word) : Type 0 where
   pub goes : (at : ℕ → ℕ) (joined : ℕ → Bool) (n : ℕ) (s : State) → core s ≡ c
-      → (s' : State) × (d : Leads (grammar level) k s (toks at joined n ws) s') × (m ≡ module_of s') × CountsNone level d
+      → (s' : State) × (d : Leads (grammar level) k s (text_tokens at joined n ws) s') × (m ≡ module_of s') × CountsNone level d
 
 -- likewise whatever token was the last
 abbrev pub Any : Level → Module → List Symbol → Core → List Word → Type 0
@@ -226,7 +226,7 @@ module _ {level : Level} {m : Module} where
       → Runs level m k (said w c) ws → Runs level m (symbol.Word a ∷ k) c (w ∷ ws)
   word {a} {k} {c} {w} {ws} e r = record {
     goes = λ at joined n s is.
-        let t : Tok = record { kind = w.0; text = w.1; at = at n; joined = joined n } in
+        let t : TextToken = record { kind = w.0; text = w.1; at = at n; joined = joined n } in
         let g = r.goes at joined (n + 1) (record s { last = t }) (ap (said w) is) in
         (g.0, Leads.word a k s t _ g.0 (fits-core level a s t (subst (λ (x : Core). fits a x w ≡ true) (sym is) e)) g.1, g.2, g.3);
   }
@@ -243,7 +243,7 @@ module _ {level : Level} {m : Module} where
       → Runs level m (l.after ++ k) (said w c) ws → Runs level m (symbol.Rule r ∷ k) c (w ∷ ws)
   line {r} {k} {c} {w} {ws} l e run = record {
     goes = λ at joined n s is.
-        let t : Tok = record { kind = w.0; text = w.1; at = at n; joined = joined n } in
+        let t : TextToken = record { kind = w.0; text = w.1; at = at n; joined = joined n } in
         let g = run.goes at joined (n + 1) (record s { last = t }) (ap (said w) is) in
         (g.0, Leads.line r k s t _ g.0 l (line-core level r l s t (subst (λ (x : Core). line_on level r x w ≡ Some l) (sym is) e)) g.1, g.2, g.3);
   }
@@ -255,7 +255,7 @@ module _ {level : Level} {m : Module} where
   }
   skip {r} {k} {c} (w ∷ ws) e misses run = record {
     goes = λ at joined n s is.
-        let t : Tok = record { kind = w.0; text = w.1; at = at n; joined = joined n } in
+        let t : TextToken = record { kind = w.0; text = w.1; at = at n; joined = joined n } in
         let g = run.goes at joined n s is in
         (g.0, Leads.nothing r k s _ g.0 e (misses-core level r s t (subst (λ (x : Core). not (is_hash_name w.0) && is_none (line_on level r x w) ≡ true) (sym is) misses)) g.1, g.2, g.3);
   }

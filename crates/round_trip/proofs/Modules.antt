@@ -15,7 +15,7 @@ use Rattle.module_grammar.specs.Texts.{whole}
 use Rattle.mlir_print.specs.Docs.{◌<>◌, deeper}
 use Rattle.mlir_print.specs.Printed.{Printed, next, func_head, printed_region, printed_lines, printed_func, printed_funcs, module_doc}
 use Rattle.mlir_print.specs.Printable.{ArePrintable}
-use Rattle.round_trip.specs.GivesBack.{IsSmallText, GivesBack, toks}
+use Rattle.round_trip.specs.GivesBack.{IsSmallText, GivesBack, text_tokens}
 use Rattle.round_trip.proofs.Beginning.{few-operations, few-functions}
 use Rattle.round_trip.proofs.Named.{few-values}
 use Rattle.round_trip.proofs.Core.{Word, Core, core}
@@ -71,9 +71,9 @@ module _ {level : Level} {m : Module} where
       (λ after is_last seen n. all-funcs fs (f ∷ []) after inner seen n are.1 is_last e) _))
 
 pub gives-back : GivesBack
-gives-back level m at joined h = subst (λ (ws : List Word). IsSmallText level (toks at joined 0 ws) m) (sym (onto-is (module_doc m) end)) text
+gives-back level m at joined h = subst (λ (ws : List Word). IsSmallText level (text_tokens at joined 0 ws) m) (sym (onto-is (module_doc m) end)) text
   where
-    text : IsSmallText level (toks at joined 0 (onto (module_doc m) end)) m
+    text : IsSmallText level (text_tokens at joined 0 (onto (module_doc m) end)) m
     text =
         let r = (text-runs {level = level} {m = m} m.funcs h refl (core at_start).passing).goes at joined 0 at_start refl in
         (r.0, r.1, r.2, record { operations = few-operations level r.0 _ r.1; functions = few-functions level r.0 _ r.1; values = few-values level r.0 _ r.1 r.3 })

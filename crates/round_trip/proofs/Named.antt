@@ -8,7 +8,7 @@ use Rattle.module_grammar.specs.declared.symbols.Rule.{Rule}
 use Rattle.module_grammar.specs.declared.symbols.Rule.TheVariants as rule
 use Rattle.module_grammar.specs.declared.symbols.Symbol.{Symbol}
 use Rattle.module_grammar.specs.declared.symbols.Symbol.TheVariants as symbol
-use Rattle.module_grammar.specs.declared.state.Tok.{Tok}
+use Rattle.module_grammar.specs.declared.state.TextToken.{TextToken}
 use Rattle.module_grammar.specs.declared.state.State.{State}
 use Rattle.module_grammar.specs.Engine.{Line, Leads}
 use Rattle.module_grammar.specs.State.{at_start, does}
@@ -19,7 +19,7 @@ use Rattle.round_trip.proofs.Counting.{is_results, pending, in_order, counts_val
 use Rattle.module_grammar.proofs.Ends.{and-both}
 
 -- no name is given a number of values on the way
-abbrev pub CountsNone : (level : Level) {k : List Symbol} {s : State} {ts : List Tok} {s' : State} → Leads (grammar level) k s ts s' → Type 0
+abbrev pub CountsNone : (level : Level) {k : List Symbol} {s : State} {ts : List TextToken} {s' : State} → Leads (grammar level) k s ts s' → Type 0
 CountsNone level (Leads.ended s) = ⊤
 CountsNone level (Leads.word c k s t ts s' fits d) = CountsNone level d
 CountsNone level (Leads.act a k s ts s' d) = (counts_values a ≡ false) × CountsNone level d
@@ -50,7 +50,7 @@ all-checked level _ = refl
 -- ---- how many values are named
 
 -- so many values are named at the end
-abbrev Ends : List Symbol → State → List Tok → State → Type 0
+abbrev Ends : List Symbol → State → List TextToken → State → Type 0
 Ends k s ts s' = s'.counted + words k ≤ (named (pending false k) s + weight names k) + length ts
 
 not-true : (b : Bool) → not b ≡ true → b ≡ false
@@ -71,11 +71,11 @@ kept false after false e o =
     let b = both (in_order false after) (not (pending false after)) e in
     (b.0, not-true (pending false after) b.1)
 
-last-named : (p : Bool) (s : State) (t : Tok) → named p (record s { last = t }) ≡ named p s
+last-named : (p : Bool) (s : State) (t : TextToken) → named p (record s { last = t }) ≡ named p s
 last-named true s t = refl
 last-named false s t = refl
 
-one-line : (r : Rule) (l : Line) (k : List Symbol) (s : State) (t : Tok) (ts : List Tok) (s' : State) → is_checked r l ≡ true
+one-line : (r : Rule) (l : Line) (k : List Symbol) (s : State) (t : TextToken) (ts : List TextToken) (s' : State) → is_checked r l ≡ true
     → (is_results r || not (pending false k)) ≡ true → in_order false k ≡ true → (in_order false (l.after ++ k) ≡ true → Ends (l.after ++ k) (record s { last = t }) ts s')
     → Ends (symbol.Rule r ∷ k) s (t ∷ ts) s'
 one-line r l k s t ts s' checked order orders again =
@@ -94,7 +94,7 @@ skipped s true p o = refl
 skipped s false true o = absurd cc
 skipped s false false o = refl
 
-values-end : (level : Level) (k : List Symbol) (s : State) (ts : List Tok) (s' : State) (d : Leads (grammar level) k s ts s') → CountsNone level d
+values-end : (level : Level) (k : List Symbol) (s : State) (ts : List TextToken) (s' : State) (d : Leads (grammar level) k s ts s') → CountsNone level d
     → in_order false k ≡ true → Ends k s ts s'
 values-end level _ _ _ _ (Leads.ended s) none order = omega arith
 values-end level _ _ _ _ (Leads.word c k s t ts s' fits d) none order =
@@ -116,5 +116,5 @@ values-end level _ _ _ _ (Leads.nothing r k s ts s' ends n d) none order =
     let same = skipped s (is_results r) (pending false k) o.0 in
     omega (arith, h, same)
 
-pub few-values : (level : Level) (s : State) (ts : List Tok) (d : Leads (grammar level) whole at_start ts s) → CountsNone level d → s.counted < length ts
+pub few-values : (level : Level) (s : State) (ts : List TextToken) (d : Leads (grammar level) whole at_start ts s) → CountsNone level d → s.counted < length ts
 few-values level s ts d none = let h = values-end level whole at_start ts s d none refl in omega (arith, h)

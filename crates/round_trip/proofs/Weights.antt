@@ -6,7 +6,7 @@ use Rattle.module_grammar.specs.declared.symbols.Rule.{Rule}
 use Rattle.module_grammar.specs.declared.symbols.Act.{Act}
 use Rattle.module_grammar.specs.declared.symbols.Symbol.{Symbol}
 use Rattle.module_grammar.specs.declared.symbols.Symbol.TheVariants as symbol
-use Rattle.module_grammar.specs.declared.state.Tok.{Tok}
+use Rattle.module_grammar.specs.declared.state.TextToken.{TextToken}
 use Rattle.module_grammar.specs.declared.state.State.{State}
 use Rattle.module_grammar.specs.Engine.{Line, Table, Leads, first_line}
 use Rattle.module_grammar.specs.State.{does}
@@ -47,7 +47,7 @@ pub both : (a b : Bool) → a && b ≡ true → (a ≡ true) × (b ≡ true)
 both true b e = (refl, e)
 both false b e = absurd cc
 
-pub chosen : (g : Table Tok State) (test : Line → Bool) (ls : List Line) (s : State) (t : Tok) (l : Line) → first_line g ls s t ≡ Some l → all_lines test ls ≡ true → test l ≡ true
+pub chosen : (g : Table TextToken State) (test : Line → Bool) (ls : List Line) (s : State) (t : TextToken) (l : Line) → first_line g ls s t ≡ Some l → all_lines test ls ≡ true → test l ≡ true
 chosen g test [] s t l is all = absurd cc
 chosen g test (x ∷ ls) s t l is all = step (g.accepts x.first s t) is (both (test x) (all_lines test ls) all).0 (λ again. chosen g test ls s t l again (both (test x) (all_lines test ls) all).1)
   where
@@ -55,7 +55,7 @@ chosen g test (x ∷ ls) s t l is all = step (g.accepts x.first s t) is (both (t
     step true is ok again = let same : x ≡ l = cc in subst (λ (y : Line). test y ≡ true) same ok
     step false is ok again = again is
 
-pub chosen-fits : (g : Table Tok State) (ls : List Line) (s : State) (t : Tok) (l : Line) → first_line g ls s t ≡ Some l → g.accepts l.first s t ≡ true
+pub chosen-fits : (g : Table TextToken State) (ls : List Line) (s : State) (t : TextToken) (l : Line) → first_line g ls s t ≡ Some l → g.accepts l.first s t ≡ true
 chosen-fits g [] s t l is = absurd cc
 chosen-fits g (x ∷ ls) s t l is = step (g.accepts x.first s t) refl is (λ again. chosen-fits g ls s t l again)
   where
@@ -69,9 +69,9 @@ chosen-fits g (x ∷ ls) s t l is = step (g.accepts x.first s t) refl is (λ aga
 abbrev pub is_light : (Act → ℕ) → Line → Bool
 is_light w l = nat_le (weight w l.after) (suc (words l.after))
 
-module _ (f : State → ℕ) (w : Act → ℕ) (raised : (a : Act) (s : State) → f (does a s) ≤ w a + f s) (kept : (t : Tok) (s : State) → f (record s { last = t }) ≡ f s)
+module _ (f : State → ℕ) (w : Act → ℕ) (raised : (a : Act) (s : State) → f (does a s) ≤ w a + f s) (kept : (t : TextToken) (s : State) → f (record s { last = t }) ≡ f s)
     (level : Level) (light : (r : Rule) → all_lines (is_light w) (lines level r) ≡ true) where
-  pub raised-by : (k : List Symbol) (s : State) (ts : List Tok) (s' : State) → Leads (grammar level) k s ts s' → f s' + words k ≤ (f s + weight w k) + length ts
+  pub raised-by : (k : List Symbol) (s : State) (ts : List TextToken) (s' : State) → Leads (grammar level) k s ts s' → f s' + words k ≤ (f s + weight w k) + length ts
   raised-by _ _ _ _ (Leads.ended s) = omega arith
   raised-by _ _ _ _ (Leads.word c k s t ts s' e d) =
       let h = raised-by k (record s { last = t }) ts s' d in

@@ -7,10 +7,9 @@ ghost use Rattle.scf_blocks.specs.Bodies.{begun, defined, ended, failing, made, 
 
 use crate::parts::type_at;
 use crate::scope::Scope;
-use ir_forms::{Ty, ValueNo};
+use ir_forms::{Ty, ValueNo, copy_type};
 use lists::Items;
 use low_forms::{Block, BlockNo, Instr, Reg, Term};
-use made_ops::copy_type;
 use std::alloc::{AllocError, Global};
 use std::mem;
 

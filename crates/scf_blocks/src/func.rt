@@ -12,11 +12,10 @@ ghost use Rattle.scf_blocks.specs.Lowered.{ends_task, is_task_yield, with_failur
 use crate::body::{Body, Close, Failure, number, plus};
 use crate::count::count_ops;
 use crate::terms::{fails_with, passes_on};
-use ir_forms::{Func, Module, Op, Ty, Width};
+use ir_forms::{Func, Module, Op, Ty, Width, copy_types};
 use ir_verify::Names;
 use lists::Items;
 use low_forms::{Block, LowFunc, LowModule, Reg};
-use made_ops::copy_types;
 use op_table::Form;
 use std::alloc::{AllocError, Global};
 

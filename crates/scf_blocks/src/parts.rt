@@ -7,10 +7,9 @@ ghost use Rattle.ir_verify.specs.Names.{first_named};
 ghost use Rattle.scf_blocks.specs.Code as code;
 
 use crate::body::number;
-use ir_forms::{Attr, Op, Ty, ValueNo};
+use ir_forms::{Attr, Op, Ty, ValueNo, copy_type};
 use ir_verify::Names;
 use low_forms::{FuncNo, LowAttr};
-use made_ops::copy_type;
 use std::alloc::{AllocError, Global};
 
 /// The parameters of one of an operation's regions. One that is missing has none.

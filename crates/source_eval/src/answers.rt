@@ -13,10 +13,10 @@ ghost use Rattle.source_tasks.specs.Numbers.{capped};
 ghost use Rattle.source_eval.specs.Answered.{IsAnswered};
 
 use crate::made::{elements, made_by, one};
-use ir_forms::{Action, ElementName, MadeName};
+use ir_forms::{Action, ElementName, MadeName, copy_element};
 use lists::Items;
 use source_meaning::{SourceEnd, Val};
-use source_state::{Shared, copy_element};
+use source_state::Shared;
 use source_tasks::{Asked, Task};
 use std::alloc::{AllocError, Global};
 

@@ -7,10 +7,9 @@ ghost use Rattle.source_meaning.specs.World as world;
 ghost use Rattle.source_meaning.specs.World.{all_of, all_below};
 ghost use Rattle.source_state.specs.Seen.{outcome_of, ends_of, end_of};
 
-use crate::copies::copy_val;
 use ir_forms::ElementName;
 use lists::Items;
-use source_meaning::Val;
+use source_meaning::{Val, copy_val};
 use std::alloc::{AllocError, Global};
 use std::collections::BTreeMap;
 

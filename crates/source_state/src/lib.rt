@@ -1,14 +1,12 @@
 //! What the tasks of a sequential run share: buffers, groups, and how tasks ended.
 #![tactic(auto)]
 
-mod copies;
 mod ends;
 mod groups;
 mod names;
 mod shared;
 mod stores;
 
-pub use copies::{copy_element, copy_made, copy_val};
 pub use ends::Ended;
 pub use groups::Fill;
 pub use shared::Shared;

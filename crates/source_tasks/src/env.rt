@@ -4,10 +4,9 @@ ghost use Rattle.source_meaning.specs.declared.values.Val.{Val};
 ghost use Rattle.source_meaning.specs.Values.{put, bind, named, values_at, number_in, buffer_in, dims_in, element_in, group_in};
 ghost use Rattle.source_meaning.specs.Steps.{value, number, numbers};
 
-use crate::copies::{copy_element, copy_made, copy_val};
-use ir_forms::{ElementName, MadeName, ValueNo};
+use ir_forms::{ElementName, MadeName, ValueNo, copy_element, copy_made};
 use lists::Items;
-use source_meaning::Val;
+use source_meaning::{Val, copy_val};
 use std::alloc::{AllocError, Global};
 use std::marker::Model;
 

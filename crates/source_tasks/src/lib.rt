@@ -6,7 +6,6 @@
 
 mod alone;
 mod asking;
-mod copies;
 mod env;
 mod facts;
 mod flow;

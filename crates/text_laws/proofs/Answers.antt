@@ -8,14 +8,14 @@ use Rattle.mlir_lex.specs.declared.kinds.LexFault.{LexFault}
 use Rattle.mlir_lex.specs.declared.kinds.LexFault.TheVariants as lex
 use Rattle.mlir_lex.specs.Laws.{OneReading}
 use Rattle.mlir_lex.specs.Scan.{reading}
-use Rattle.module_grammar.specs.declared.state.Tok.{Tok}
+use Rattle.module_grammar.specs.declared.state.TextToken.{TextToken}
 use Rattle.module_grammar.specs.declared.faults.TextLimits.{TextLimits}
 use Rattle.module_grammar.specs.declared.faults.GrammarFault.{GrammarFault}
 use Rattle.module_grammar.specs.declared.faults.GrammarFault.TheVariants as grammar
 use Rattle.module_grammar.specs.Faults.{parsed, AcceptsExactly}
 use Rattle.mlir_text.specs.declared.fault.TextFault.{TextFault}
 use Rattle.mlir_text.specs.declared.fault.TextFault.TheVariants.{Lex, Syntax, UnknownOp, UnknownType, WideNumber, Limit, OutOfMemory}
-use Rattle.mlir_text.specs.Tokens.{AreToksOf, toks_of}
+use Rattle.mlir_text.specs.Tokens.{AreTokensOf, text_tokens_of}
 use Rattle.mlir_text.specs.Texts.{HasGrammarFault, HasLexFault, IsParsed, told, answer_of, OneModule, OneAnswer, ReadsTexts}
 
 abbrev cut_ok : List Token → Result (List Token) LexFault
@@ -31,18 +31,18 @@ abbrev read_err : TextFault → Result Module TextFault
 read_err f = Err f
 
 module _ (one : OneReading) (accepts : AcceptsExactly) (limits : TextLimits) (level : Level) (text : List ℕ) where
-  reading_is : (toks : List Tok) → (are : AreToksOf text toks) → reading text ≡ Ok are.0
-  reading_is toks are = (one text (Ok are.0)).0 are.1.1
+  reading_is : (text_tokens : List TextToken) → (are : AreTokensOf text text_tokens) → reading text ≡ Ok are.0
+  reading_is text_tokens are = (one text (Ok are.0)).0 are.1.1
 
-  pub one_toks : (ts us : List Tok) → AreToksOf text ts → AreToksOf text us → ts ≡ us
-  one_toks ts us are be =
+  pub one_text_tokens : (ts us : List TextToken) → AreTokensOf text ts → AreTokensOf text us → ts ≡ us
+  one_text_tokens ts us are be =
       let both : cut_ok are.0 ≡ cut_ok be.0 = sym (reading_is ts are) ∙ reading_is us be in
       let same : are.0 ≡ be.0 = cc in
-      are.2 ∙ ap (toks_of text) same ∙ sym be.2
+      are.2 ∙ ap (text_tokens_of text) same ∙ sym be.2
 
   -- an answer, and why it is given
   data IsFrom (a : Result Module TextFault) : Type 0 where
-    by_grammar : (toks : List Tok) → AreToksOf text toks → answer_of (parsed limits level toks) ≡ a → IsFrom a
+    by_grammar : (text_tokens : List TextToken) → AreTokensOf text text_tokens → answer_of (parsed limits level text_tokens) ≡ a → IsFrom a
     by_lex : (f : LexFault) → HasLexFault text f → a ≡ Err (Lex f) → IsFrom a
     by_want : a ≡ Err OutOfMemory → IsFrom a
 
@@ -50,7 +50,7 @@ module _ (one : OneReading) (accepts : AcceptsExactly) (limits : TextLimits) (le
   grammar_from f has = by_grammar has.0 has.1 (ap answer_of has.2)
 
   from : (a : Result Module TextFault) → IsParsed limits level text a → IsFrom a
-  from (Ok m) (toks, are, is) = by_grammar toks are (ap answer_of ((accepts limits level toks m).1 is))
+  from (Ok m) (text_tokens, are, is) = by_grammar text_tokens are (ap answer_of ((accepts limits level text_tokens m).1 is))
   from (Err (Lex f)) has = by_lex f has refl
   from (Err (Syntax at)) has = grammar_from (grammar.Syntax at) has
   from (Err (UnknownOp at)) has = grammar_from (grammar.UnknownOp at) has
@@ -60,11 +60,11 @@ module _ (one : OneReading) (accepts : AcceptsExactly) (limits : TextLimits) (le
   from (Err OutOfMemory) has = by_want refl
 
   -- tokens and a fault of the tokens don't go together
-  no_lex : (toks : List Tok) → AreToksOf text toks → (f : LexFault) → HasLexFault text f → ⊥
-  no_lex toks are (lex.BadUtf8 at) has = has.0 are.1.0
-  no_lex toks are (lex.OpenString at) has = let e : cut_ok are.0 ≡ cut_err (lex.OpenString at) = sym (reading_is toks are) ∙ (one text (Err (lex.OpenString at))).0 has.1 in cc
-  no_lex toks are (lex.BadByte at) has = let e : cut_ok are.0 ≡ cut_err (lex.BadByte at) = sym (reading_is toks are) ∙ (one text (Err (lex.BadByte at))).0 has.1 in cc
-  no_lex toks are lex.OutOfMemory has = has
+  no_lex : (text_tokens : List TextToken) → AreTokensOf text text_tokens → (f : LexFault) → HasLexFault text f → ⊥
+  no_lex text_tokens are (lex.BadUtf8 at) has = has.0 are.1.0
+  no_lex text_tokens are (lex.OpenString at) has = let e : cut_ok are.0 ≡ cut_err (lex.OpenString at) = sym (reading_is text_tokens are) ∙ (one text (Err (lex.OpenString at))).0 has.1 in cc
+  no_lex text_tokens are (lex.BadByte at) has = let e : cut_ok are.0 ≡ cut_err (lex.BadByte at) = sym (reading_is text_tokens are) ∙ (one text (Err (lex.BadByte at))).0 has.1 in cc
+  no_lex text_tokens are lex.OutOfMemory has = has
 
   abbrev reads_fault : LexFault → Type 0
   reads_fault f = reading text ≡ Err f
@@ -93,7 +93,7 @@ module _ (one : OneReading) (accepts : AcceptsExactly) (limits : TextLimits) (le
   agree : (a b : Result Module TextFault) → IsFrom a → IsFrom b → Agree a b
   agree a b (by_want e) g = inl e
   agree a b f (by_want e) = inr (inl e)
-  agree a b (by_grammar ts are d) (by_grammar us be e) = inr (inr (sym d ∙ ap (λ toks. answer_of (parsed limits level toks)) (one_toks ts us are be) ∙ e))
+  agree a b (by_grammar ts are d) (by_grammar us be e) = inr (inr (sym d ∙ ap (λ text_tokens. answer_of (parsed limits level text_tokens)) (one_text_tokens ts us are be) ∙ e))
   agree a b (by_grammar ts are d) (by_lex f has e) = absurd (no_lex ts are f has)
   agree a b (by_lex f has d) (by_grammar us be e) = absurd (no_lex us be f has)
   agree a b (by_lex f has d) (by_lex g have e) = inr (inr (d ∙ ap (λ h. Err (Lex h)) (one_lex f g has have) ∙ sym e))

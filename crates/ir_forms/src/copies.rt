@@ -1,8 +1,10 @@
-//! Exact copies of what operations are made of.
+//! Exact copies of types, names, and what operations are made of.
 ghost use Rattle.std.specs.Prelude.{◌≡◌, ◌++◌, IfOk, OnOk};
 ghost use Rattle.ir_forms.specs.declared.ops.Op.{out-Op, roll-Op};
 
-use ir_forms::{Attr, MemTy, Op, Region, Ty, ValTy, ValueNo};
+use crate::names::{ElementName, MadeName};
+use crate::ops::{Attr, Op, Region, ValueNo};
+use crate::types::{MemTy, Ty, ValTy};
 use lists::Items;
 use std::alloc::{AllocError, Global};
 
@@ -15,7 +17,7 @@ pub fn copy_memref(alloc: Global, memref: &MemTy) -> Result<MemTy, AllocError>
     })
 }
 
-fn copy_payload(alloc: Global, payload: &ValTy) -> Result<ValTy, AllocError>
+pub fn copy_payload(alloc: Global, payload: &ValTy) -> Result<ValTy, AllocError>
     ensures { IfOk result (λ copy. copy ≡ payload.now) }
 {
     match payload {
@@ -115,4 +117,32 @@ pub fn copy_op(alloc: Global, op: &Op, regions: Items<Region>) -> Result<Op, All
         attr,
         regions,
     })
+}
+
+pub fn copy_made(alloc: Global, name: &MadeName) -> Result<MadeName, AllocError>
+    ensures { IfOk result (λ copy. copy ≡ name.now) }
+{
+    match name {
+        MadeName::Argument { parameter } => Ok(MadeName::Argument {
+            parameter: *parameter,
+        }),
+        MadeName::Made { task, action } => Ok(MadeName::Made {
+            task: Items::from_slice(alloc, task.as_slice())?,
+            action: *action,
+        }),
+    }
+}
+
+pub fn copy_element(alloc: Global, name: &ElementName) -> Result<ElementName, AllocError>
+    ensures { IfOk result (λ copy. copy ≡ name.now) }
+{
+    match name {
+        ElementName::Token { task } => Ok(ElementName::Token {
+            task: Items::from_slice(alloc, task.as_slice())?,
+        }),
+        ElementName::Value { task, result } => Ok(ElementName::Value {
+            task: Items::from_slice(alloc, task.as_slice())?,
+            result: *result,
+        }),
+    }
 }

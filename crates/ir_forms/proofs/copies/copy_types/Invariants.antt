@@ -1,5 +1,5 @@
 use Rattle.std.proofs.Common.{◌≡◌, take}
-use Rattle.made_ops.proofs.copies.copy_types.Given as goal
+use Rattle.ir_forms.proofs.copies.copy_types.Given as goal
 
 abbrev pub invariant-loop-ty : goal.invariant-loop-ty
 invariant-loop-ty l = l.copies ≡ take l.ty-index l.types
