@@ -1,2 +1,4 @@
+pub mod MessageLemmas
 pub mod NoteLemmas
+pub mod FoundNotes
 pub mod Chains

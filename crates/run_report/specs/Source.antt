@@ -10,7 +10,7 @@ use Rattle.ir_forms.specs.Names.{Path}
 use Rattle.source_meaning.specs.declared.ends.SourceEnd.{SourceEnd}
 use Rattle.source_meaning.specs.declared.ends.SourceEnd.TheVariants.{Done, Failed, Short, Overfull, Cells, Spent}
 use Rattle.run_report.specs.Texts.{between, numbered, result_lines, buffer_lines, failed_line}
-use Rattle.run_report.specs.Notes.{note_at}
+use Rattle.run_report.specs.Messages.{note_at}
 
 -- ---- names
 

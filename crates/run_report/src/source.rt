@@ -4,7 +4,7 @@ ghost use Rattle.std.specs.Prelude.{◌≡◌, ◌++◌, [], OnOk, IfOk, codes, 
 ghost use Rattle.run_report.specs.Source as spec;
 ghost use Rattle.run_report.specs.Source.{steps_text, path_text, made_text, use_text, action_text, entry_line, race_text, group_line, end_text, end_status, has_ended};
 
-use crate::notes::note_at;
+use crate::messages::note_at;
 use crate::texts::{push_buffers, push_failed, push_numbered, push_results, push_two_numbered};
 use ir_forms::{Action, MadeName, Module, TraceEntry};
 use source_meaning::{SourceEnd, SourceRun};

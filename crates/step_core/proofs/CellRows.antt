@@ -30,7 +30,7 @@ use Rattle.step_core.proofs.RowLemmas.{goes, taken}
 
 -- ---- numbers that operands hold
 
-values_length : (regs : List Val) (rs : List Reg) → length (values_at regs rs) ≡ length rs
+pub values_length : (regs : List Val) (rs : List Reg) → length (values_at regs rs) ≡ length rs
 values_length regs [] = refl
 values_length regs (r ∷ rs) = ap suc (values_length regs rs)
 

@@ -13,3 +13,5 @@ pub mod CellRows
 pub mod EndRows
 pub mod Products
 pub mod Dispatch
+pub mod EnabledRows
+pub mod EnabledLemmas

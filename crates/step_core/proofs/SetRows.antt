@@ -66,7 +66,7 @@ first_there (Object x) c us cs go o e = split (is_there c.counts x) e where
   split true e = ap (λ y. limited None (overlay (all_there us c.counts) c (cs (Object y)) (go y))) (same_Some x o e)
   split false e = absurd (none-some o e)
 
-can_join : (s : the_state.State) (g : ObjNo) (counts : List ℕ) → (can_change (joins s g) counts ≡ true) × (freed (joins s g) counts ≡ [])
+pub can_join : (s : the_state.State) (g : ObjNo) (counts : List ℕ) → (can_change (joins s g) counts ≡ true) × (freed (joins s g) counts ≡ [])
 can_join Unset g counts = (can_grow (more g 1) counts refl, none_goes (more g 1) counts refl (omega arith))
 can_join Available g counts = (refl, refl)
 can_join Error g counts = (refl, refl)

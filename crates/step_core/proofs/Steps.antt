@@ -104,7 +104,7 @@ free_of code s l e d = ⊎_elim (λ same. sym same ∙ e) (λ deep. absurd (d (s
 
 -- ---- without the limit none is too deep
 
-abbrev is_deep : Local → Bool
+abbrev pub is_deep : Local → Bool
 is_deep local.Deep = true
 is_deep _ = false
 
@@ -164,7 +164,7 @@ shallow_in : (code : LowModule) (f : LowFunc) (is : List Instr) (t : Term) (s : 
 shallow_in code f [] t s = shallow_end _ code f t s
 shallow_in code f (i ∷ is) t s = shallow_inner _ code f i s
 
-shallow : (code : LowModule) (s : Stack) → is_deep (free_step code s) ≡ false
+pub shallow : (code : LowModule) (s : Stack) → is_deep (free_step code s) ≡ false
 shallow code s = shallow_maybe (standing code s.top.current.place) _ (λ st. shallow_in code st.func st.rest.instrs st.rest.term s)
 
 pub free_deep : (code : LowModule) (s : Stack) → local_step code s ≡ local.Deep → (after : Stack) × (free_step code s ≡ local.Done after None)
@@ -195,6 +195,15 @@ may_in n c = cond (is_there c.counts n.object) (leaves_own c n) false
 abbrev pub by_step : Limits → LowModule → Core → ℕ → Stack → Local → Local → Took Core
 by_step l code c t s lo free =
     limited (limit_by lo l code c s) (overlay (cond (leaves_by free c) (all_there (uses_by free code s) c.counts) false) c (changes_by free code c.plain s) (by_local free code c.plain t s))
+
+pub can_by : (c : Core) (n : CountStep) (adds : Bool) → n.adds ≡ adds → is_there c.counts n.object ≡ true → leaves_own c n ≡ true → can_change (counting_change n ∷ []) c.counts ≡ true
+can_by c n true a there h = let least : nat_le 0 (count_at c.counts n.object.0 + (0 + n.n)) ≡ true = grind (arith, nat_tests) in rw (a, least) refl
+can_by c n false a there h =
+    let left : nat_le (n.n + own_count (object_at c.plain.objects n.object)) (count_at c.counts n.object.0) ≡ true = rw a at h in
+    rw (a, drops n.n (own_count (object_at c.plain.objects n.object)) (count_at c.counts n.object.0) left) refl
+  where
+    drops : (m own count : ℕ) → nat_le (m + own) count ≡ true → nat_le m (count + 0) ≡ true
+    drops m own count h = grind (arith, nat_tests, h)
 
 module _ (l : Limits) (code : LowModule) (c : Core) (t : ℕ) (s : Stack) (e : in_table c.plain.tasks t ≡ Some (ready s)) where
   is_by_step : limited_step l code c t ≡ by_step l code c t s (local_step code s) (free_step code s)
@@ -242,20 +251,11 @@ module _ (l : Limits) (code : LowModule) (c : Core) (t : ℕ) (s : Stack) (e : i
       not_by lo local.Stuck d f is = cc
       not_by lo local.Deep d f is = cc
 
-  can_by : (n : CountStep) (adds : Bool) → n.adds ≡ adds → is_there c.counts n.object ≡ true → leaves_own c n ≡ true → can_change (counting_change n ∷ []) c.counts ≡ true
-  can_by n true a there h = let least : nat_le 0 (count_at c.counts n.object.0 + (0 + n.n)) ≡ true = grind (arith, nat_tests) in rw (a, least) refl
-  can_by n false a there h =
-      let left : nat_le (n.n + own_count (object_at c.plain.objects n.object)) (count_at c.counts n.object.0) ≡ true = rw a at h in
-      rw (a, drops n.n (own_count (object_at c.plain.objects n.object)) (count_at c.counts n.object.0) left) refl
-    where
-      drops : (m own count : ℕ) → nat_le (m + own) count ≡ true → nat_le m (count + 0) ≡ true
-      drops m own count h = grind (arith, nat_tests, h)
-
   pub counts_so : (after : Stack) (n : CountStep) → local_step code s ≡ local.Done after (Some n) → is_there c.counts n.object ≡ true → leaves_own c n ≡ true →
       limited_step l code c t ≡ Takes (counting c (counting_change n ∷ []) (gone_on after)) [] Nothing
   counts_so after n d there left =
       let free : free_step code s ≡ local.Done after (Some n) = free_of code s _ d (λ z. cc) in
-      is_by_step ∙ rw (d, free, there, left, can_by n n.adds refl there left) refl
+      is_by_step ∙ rw (d, free, there, left, can_by c n n.adds refl there left) refl
 
 -- ---- the answer of a local step, against what it counts
 

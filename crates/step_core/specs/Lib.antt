@@ -9,5 +9,6 @@ pub mod Cells
 pub mod Running
 pub mod Parts
 pub mod Counting
+pub mod Enabled
 pub mod High
 pub mod Worked

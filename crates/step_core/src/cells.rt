@@ -1,5 +1,5 @@
 //! The cells of buffers.
-ghost use Rattle.std.specs.Prelude.{◌≡◌, ◌<◌, ◌+◌, ◌^◌, ◌++◌, ◌∷◌, [], length, slice_get, slice_set, IsSome, IfOk, OnOk, vec_len, vec_capacity};
+ghost use Rattle.std.specs.Prelude.{◌≡◌, ◌<◌, ◌+◌, ◌-◌, ◌^◌, ◌↔◌, ◌++◌, ◌∷◌, [], length, IsTrue, slice_get, slice_set, IsSome, IfOk, OnOk, vec_len, vec_capacity};
 ghost use Rattle.step_core.specs.Cells.{cells_in};
 ghost use Rattle.step_core.specs.State.{buffer_val, cells_used, argument_cells};
 
@@ -79,6 +79,13 @@ impl Cells {
         ensures { result ≡ length self.now.buffers }
     {
         self.buffers.len() as u32
+    }
+
+    /// Whether there may be a buffer more.
+    pub(crate) fn has_number(&self) -> bool
+        ensures { IsTrue result ↔ (length self.now.buffers < 2 ^ 32 - 1) }
+    {
+        self.buffers.len() < u32::MAX as usize
     }
 
     /// How many cells there are.

@@ -3,6 +3,8 @@
 
 mod cells;
 mod counting;
+mod enabled;
+mod enabled_rows;
 mod ends;
 pub mod laws;
 mod limits;

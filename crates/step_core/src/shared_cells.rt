@@ -27,7 +27,7 @@ use std::alloc::{AllocError, Global};
 use task_stack::Stack;
 
 /// A size of a buffer is at most this.
-const MOST_CELLS: u64 = 16_777_216;
+pub(crate) const MOST_CELLS: u64 = 16_777_216;
 
 /// The sizes of a buffer of this rank.
 fn sizes_in(rank: u8, dims: &[u32]) -> &[u32]
@@ -70,7 +70,12 @@ fn cell_of(stack: &Stack, instr: &Instr, first: usize, dims: &[u32]) -> Option<u
 }
 
 /// The cell of a buffer that the operands from this one on name, if it is there: the buffer's number, and the cell's.
-fn cell_there(stack: &Stack, cells: &Cells, instr: &Instr, buffer: usize) -> Option<(u32, usize)>
+pub(crate) fn cell_there(
+    stack: &Stack,
+    cells: &Cells,
+    instr: &Instr,
+    buffer: usize,
+) -> Option<(u32, usize)>
     requires { buffer < 4 }
     ensures { MatchOption result (cell_named (value (operands stack.now instr.now) buffer) (numbers (drop (buffer + 1) (operands stack.now instr.now))) cells.now.buffers ≡ None) (λ c. cell_named (value (operands stack.now instr.now) buffer) (numbers (drop (buffer + 1) (operands stack.now instr.now))) cells.now.buffers ≡ Some (c.0, c.1)) }
 {
@@ -126,7 +131,7 @@ pub(crate) fn result_type<'a>(func: &'a LowFunc, instr: &Instr) -> Option<&'a Ty
 }
 
 /// The dimensions of an allocation.
-fn dims_of<'a>(func: &'a LowFunc, instr: &Instr) -> &'a [Dim]
+pub(crate) fn dims_of<'a>(func: &'a LowFunc, instr: &Instr) -> &'a [Dim]
     ensures { result.now ≡ dims_of (type_at func.now instr.now.results 0) }
 {
     match result_type(func, instr) {

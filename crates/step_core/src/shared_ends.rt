@@ -32,7 +32,7 @@ pub(crate) fn deallocate(stack: &mut Stack, instr: &Instr) -> Row
 }
 
 /// Whether the working frame is the only one, of the root or of another task.
-fn is_only_frame(stack: &Stack, of_root: bool) -> bool
+pub(crate) fn is_only_frame(stack: &Stack, of_root: bool) -> bool
     ensures { IsTrue result ↔ ((stack.now.below ≡ []) × (stack.now.is_root ≡ of_root)) }
 {
     stack.is_last() && stack.is_root() == of_root

@@ -24,7 +24,7 @@ use std::alloc::AllocError;
 use task_stack::Stack;
 
 /// The object that an operand names, if it is there.
-fn named(stack: &Stack, objects: &Objects, instr: &Instr, i: usize) -> Option<ObjNo>
+pub(crate) fn named(stack: &Stack, objects: &Objects, instr: &Instr, i: usize) -> Option<ObjNo>
     ensures value { result ≡ named (value (operands stack.now instr.now) i) objects.now.counts }
     ensures there { IfSome result (λ o. IsThere objects.now.counts o) }
 {
@@ -34,7 +34,7 @@ fn named(stack: &Stack, objects: &Objects, instr: &Instr, i: usize) -> Option<Ob
     }
 }
 
-fn is_group(objects: &Objects, o: ObjNo) -> bool
+pub(crate) fn is_group(objects: &Objects, o: ObjNo) -> bool
     requires { IsThere objects.now.counts o }
     ensures { result ≡ is_group (object_at objects.now.objects o).kind }
 {
@@ -46,7 +46,7 @@ fn is_group(objects: &Objects, o: ObjNo) -> bool
 
 /// Whether an object is a token or a value that isn't set.
 #[tactic(auto, using(crate::proofs::ObjectRows::open_single, crate::proofs::ObjectRows::open_group))]
-fn is_open(objects: &Objects, o: ObjNo) -> bool
+pub(crate) fn is_open(objects: &Objects, o: ObjNo) -> bool
     requires { IsThere objects.now.counts o }
     ensures { result ≡ is_open (object_at objects.now.objects o) }
 {

@@ -8,7 +8,7 @@ use Rattle.task_stack.specs.declared.frames.Frame.{Frame}
 use Rattle.task_stack.specs.declared.steps.CountStep.{CountStep}
 use Rattle.task_stack.specs.Registers.{value}
 use Rattle.task_stack.specs.Frames.{Stack}
-use Rattle.task_stack.specs.Local.{Local, Done, Shared, operands, count_step}
+use Rattle.task_stack.specs.Local.{Local, Done, Shared, Stuck, operands, count_step}
 
 -- no step of the task alone
 abbrev pub is_shared : Local → Bool
@@ -19,6 +19,11 @@ is_shared _ = false
 abbrev pub counted : Local → Option CountStep
 counted (Done after counts) = counts
 counted _ = None
+
+-- its needs don't hold
+abbrev pub is_stuck : Local → Bool
+is_stuck Stuck = true
+is_stuck _ = false
 
 -- ---- by what instructions do
 

@@ -11,6 +11,7 @@ mod registers;
 mod shared;
 mod stack;
 mod steps;
+mod stuck;
 
 pub use async_objects::Val;
 pub use effects::{Effect, Number, effect_of};

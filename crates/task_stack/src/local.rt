@@ -53,7 +53,11 @@ pub(crate) fn standing(code: &LowModule, place: Place) -> Option<Stands<'_>>
 }
 
 /// To the start of one of the targets: the registers that take values there, and the block.
-fn target_way<'a>(func: &'a LowFunc, term: &'a Term, k: usize) -> Option<(&'a [Reg], BlockNo)>
+pub(crate) fn target_way<'a>(
+    func: &'a LowFunc,
+    term: &'a Term,
+    k: usize,
+) -> Option<(&'a [Reg], BlockNo)>
     ensures { MatchOption result (target_way func.now term.now k ≡ None) (λ way. target_way func.now term.now k ≡ Some (record { regs = way.0.now; block = Some way.1 })) }
 {
     match term.targets.get(k) {
@@ -63,7 +67,11 @@ fn target_way<'a>(func: &'a LowFunc, term: &'a Term, k: usize) -> Option<(&'a [R
 }
 
 /// How a frame that waits at this place goes on when the frame that it called ends.
-fn way_on(code: &LowModule, place: Place, fails: bool) -> Option<(&[Reg], Option<BlockNo>)>
+pub(crate) fn way_on(
+    code: &LowModule,
+    place: Place,
+    fails: bool,
+) -> Option<(&[Reg], Option<BlockNo>)>
     ensures value { MatchOption result (way_on fails code.now place ≡ None) (λ way. way_on fails code.now place ≡ Some (record { regs = way.0.now; block = way.1 })) }
     ensures within { OnSome result (place.at + 1 < 2 ^ 64) }
 {
@@ -389,7 +397,7 @@ impl Stack {
 }
 
 /// Which target a suspend takes.
-fn side(saved: &Saved) -> Option<usize>
+pub(crate) fn side(saved: &Saved) -> Option<usize>
     ensures { result ≡ side saved.now }
 {
     match saved {

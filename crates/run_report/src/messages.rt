@@ -3,7 +3,7 @@
 ghost use Rattle.std.specs.Prelude.{◌≡◌};
 ghost use Rattle.std.specs.Option.{option_copied};
 ghost use Rattle.ir_forms.specs.Ops.{kind_of, attr_of};
-ghost use Rattle.run_report.specs.Notes.{text_of, message, own_message, number_of, message_at, message_in, message_in_funcs, note_at};
+ghost use Rattle.run_report.specs.Messages.{text_of, message, own_message, number_of, message_at, message_in, message_in_funcs, note_at};
 
 use ir_forms::{Attr, Func, Module, Op, OpKind, Region};
 
@@ -17,7 +17,7 @@ fn text_of<'a>(attr: &'a Attr) -> Option<&'a [u8]>
     }
 }
 
-fn message<'a>(kind: OpKind, attr: &'a Attr) -> Option<&'a [u8]>
+pub(crate) fn message<'a>(kind: OpKind, attr: &'a Attr) -> Option<&'a [u8]>
     ensures { option_copied result ≡ message kind attr.entry.now }
 {
     match kind {
@@ -52,8 +52,8 @@ fn own_message<'a>(op: &'a Op, number: u32) -> Option<&'a [u8]>
 }
 
 /// The message of the operation, if it has this number and one, or of the first in its regions.
-#[cycle(notes)]
-#[tactic(auto, using(crate::proofs::NoteLemmas::message_at_out))]
+#[cycle(messages)]
+#[tactic(auto, using(crate::proofs::MessageLemmas::message_at_out))]
 fn message_at<'a>(op: &'a Op, number: u32) -> Option<&'a [u8]>
     ensures { option_copied result ≡ message_at number op.entry.now }
 {
@@ -68,8 +68,8 @@ fn message_at<'a>(op: &'a Op, number: u32) -> Option<&'a [u8]>
     None
 }
 
-#[cycle(notes)]
-#[tactic(auto, using(crate::proofs::NoteLemmas::message_in_out))]
+#[cycle(messages)]
+#[tactic(auto, using(crate::proofs::MessageLemmas::message_in_out))]
 fn message_in<'a>(region: &'a Region, number: u32) -> Option<&'a [u8]>
     ensures { option_copied result ≡ message_in number region.entry.now }
 {
