@@ -6,7 +6,7 @@ use Rattle.straight_core.specs.declared.ends.Entry.{Entry}
 use Rattle.straight_core.specs.State.{State}
 use Rattle.straight_core.specs.Step.{and_then, core_step, task_step}
 use Rattle.straight_core.specs.Journal.{replay, entry_after}
-use Rattle.run_journal.specs.Growth.{IsWithin}
+use Rattle.straight_journal.specs.Growth.{IsWithin}
 use Rattle.async_cli.specs.Driven.{IsDriven, IsPossible}
 
 push_on : (o : Option State) (f g : State → Option State) (s last : State) → and_then f o ≡ Some s →

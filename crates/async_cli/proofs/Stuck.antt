@@ -8,9 +8,9 @@ use Rattle.straight_core.specs.Held.{ready_task, unparked}
 use Rattle.straight_core.specs.State.{State}
 use Rattle.straight_core.specs.Step.{core_step, task_step, ready_step}
 use Rattle.straight_core.specs.Journal.{burst, longest_burst, entry_after}
-use Rattle.run_journal.specs.declared.faults.TaskLook.{TaskLook}
-use Rattle.run_journal.specs.Replay.{look}
-use Rattle.run_journal.proofs.Entries.{look_ready, look_parked, look_gone, entry_differs}
+use Rattle.straight_journal.specs.declared.faults.TaskLook.{TaskLook}
+use Rattle.straight_journal.specs.Replay.{look}
+use Rattle.straight_journal.proofs.Entries.{look_ready, look_parked, look_gone, entry_differs}
 use Rattle.async_cli.specs.Held.{IsStuck}
 
 is_ready : (s : State) (t : ℕ) (task : Task) (parked : Option ObjNo) → IsSome (ready_step s t task parked) → IsSome (unparked task parked)

@@ -9,10 +9,10 @@ use Rattle.mlir_text.specs.Texts.{OneAnswer}
 use Rattle.straight_core.specs.declared.ends.Entry.{Entry}
 use Rattle.straight_core.specs.Code.{straight_of}
 use Rattle.straight_core.specs.State.{State, start_state, IsFinished}
-use Rattle.run_journal.specs.declared.faults.TaskLook.{TaskLook}
-use Rattle.run_journal.specs.Laws.{OneJournal, OneBadLine, NoJournalWithBadLine, ReplayedOrNamed}
-use Rattle.run_journal.specs.Lines.{journal_lines, IsFirstBadLine}
-use Rattle.run_journal.specs.Replay.{first_fault}
+use Rattle.straight_journal.specs.declared.faults.TaskLook.{TaskLook}
+use Rattle.straight_journal.specs.Laws.{OneJournal, OneBadLine, NoJournalWithBadLine, ReplayedOrNamed}
+use Rattle.straight_journal.specs.Lines.{journal_lines, IsFirstBadLine}
+use Rattle.straight_journal.specs.Replay.{first_fault}
 use Rattle.async_cli.specs.declared.stops.Stop.{Stop}
 use Rattle.async_cli.specs.declared.stops.Stop.TheVariants as stop
 use Rattle.async_cli.specs.declared.tool_stops.ToolStop.{ToolStop}

@@ -3,7 +3,7 @@ use Rattle.std.specs.Prelude.{ℕ, ◌≡◌, ◌<◌, List, length, Some}
 use Rattle.straight_core.specs.declared.ends.Entry.{Entry}
 use Rattle.straight_core.specs.State.{State, live, IsFinished}
 use Rattle.straight_core.specs.Journal.{replay}
-use Rattle.run_journal.specs.Growth.{IsWithin}
+use Rattle.straight_journal.specs.Growth.{IsWithin}
 use Rattle.async_cli.specs.declared.outcome.Outcome.{Outcome}
 use Rattle.async_cli.specs.declared.outcome.Outcome.TheVariants.{Finished, Spent, Short}
 use Rattle.async_cli.specs.Held.{IsUnfinished, IsHeldUp}

@@ -5,10 +5,10 @@ use Rattle.ir_forms.specs.declared.ops.Func.{Func}
 use Rattle.straight_core.specs.declared.ends.Entry.{Entry}
 use Rattle.straight_core.specs.Code.{straight_of}
 use Rattle.straight_core.specs.State.{State, start_state}
-use Rattle.run_journal.specs.declared.faults.TaskLook.{TaskLook}
-use Rattle.run_journal.specs.Lines.{journal_lines, AreEntries, IsFirstBadLine}
-use Rattle.run_journal.specs.Replay.{first_fault}
-use Rattle.run_journal.specs.declared.faults.ReplayFault.TheVariants as fault
+use Rattle.straight_journal.specs.declared.faults.TaskLook.{TaskLook}
+use Rattle.straight_journal.specs.Lines.{journal_lines, AreEntries, IsFirstBadLine}
+use Rattle.straight_journal.specs.Replay.{first_fault}
+use Rattle.straight_journal.specs.declared.faults.ReplayFault.TheVariants as fault
 use Rattle.async_cli.specs.declared.stops.Stop.{Stop}
 use Rattle.async_cli.specs.declared.stops.Stop.TheVariants as stop
 use Rattle.async_cli.specs.declared.tool_stops.ToolStop.{ToolStop}

@@ -12,7 +12,7 @@ use Rattle.mlir_text.specs.declared.fault.TextFault.{TextFault}
 use Rattle.mlir_text.specs.declared.fault.TextFault.TheVariants as text
 use Rattle.ir_verify.specs.Faults.{name_of_kind}
 use Rattle.straight_core.specs.declared.ends.Entry.{Entry}
-use Rattle.run_journal.specs.declared.faults.TaskLook.{TaskLook}
+use Rattle.straight_journal.specs.declared.faults.TaskLook.{TaskLook}
 use Rattle.async_cli.specs.declared.tool_stops.ToolStop.{ToolStop}
 use Rattle.async_cli.specs.declared.tool_stops.ToolStop.TheVariants.{Shared, BadLine, NotARun, Unfinished}
 use Rattle.async_cli.specs.Texts.{numbered, between}

@@ -5,7 +5,7 @@ use Rattle.straight_core.specs.declared.ends.End.{End}
 use Rattle.straight_core.specs.declared.ends.End.TheVariants.{Done, Failed}
 use Rattle.straight_core.specs.declared.ends.Entry.{Entry}
 use Rattle.straight_core.specs.State.{State}
-use Rattle.run_journal.specs.Lines.{journal_lines}
+use Rattle.straight_journal.specs.Lines.{journal_lines}
 use Rattle.async_cli.specs.declared.words.Flags.{Flags}
 
 -- the end of a run's root

@@ -4,17 +4,17 @@ ghost use Rattle.std.specs.Prelude.{◌≡◌, ℕ, ◌<◌, ◌≤◌, ◌++◌
 ghost use Rattle.straight_core.specs.declared.ends.Entry.{Entry as TheEntry};
 ghost use Rattle.straight_core.specs.Step.{core_step};
 ghost use Rattle.straight_core.specs.Journal.{replay, entry_after};
-ghost use Rattle.run_journal.specs.Growth.{HasRoom, IsWithin};
-ghost use Rattle.run_journal.specs.Replay.{look};
+ghost use Rattle.straight_journal.specs.Growth.{HasRoom, IsWithin};
+ghost use Rattle.straight_journal.specs.Replay.{look};
 ghost use Rattle.async_cli.specs.Driven.{HasOutcome, IsPossible};
 ghost use Rattle.async_cli.specs.Held.{IsStuck};
 
 use crate::outcome::Outcome;
 use ir_forms::TaskNo;
-use run_journal::{TaskLook, entries_stay_within, take_entry, task_look};
 use std::alloc::{AllocError, Global};
 use std::collections::VecDeque;
 use straight_core::{Core, Entry};
+use straight_journal::{TaskLook, entries_stay_within, take_entry, task_look};
 
 /// The most entries of a run's journal.
 pub const ENTRY_LIMIT: u32 = 4_194_304;

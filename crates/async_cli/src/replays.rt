@@ -16,9 +16,9 @@ use crate::texts::run_text;
 use crate::tool_stops::ToolStop;
 use crate::words::{Asked, Flags};
 use aio_base::Source;
-use run_journal::{JournalFault, ReplayFault, read_journal, replay};
 use std::alloc::Global;
 use straight_core::{Core, Entry, Straight, straight_replays_mean};
+use straight_journal::{JournalFault, ReplayFault, read_journal, replay};
 
 /// Reads a module and a journal, replays it, and makes the text of the end.
 pub fn tell_replay<S: Source>(

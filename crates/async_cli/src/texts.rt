@@ -1,15 +1,15 @@
 //! The texts of answers.
 
 ghost use Rattle.std.specs.Prelude.{◌≡◌, ◌++◌, [], OnOk, IfOk, codes, if◌then◌else◌};
-ghost use Rattle.run_journal.specs.Lines.{journal_lines};
+ghost use Rattle.straight_journal.specs.Lines.{journal_lines};
 ghost use Rattle.std.specs.Option.{option_copied};
 ghost use Rattle.async_cli.specs.Texts.{end_lines, made_line, steps_line, run_text};
 
 use crate::words::Flags;
-use run_journal::push_journal;
 use run_report::{push_numbered, push_results};
 use std::alloc::{AllocError, Global};
 use straight_core::{Core, End, Entry};
+use straight_journal::push_journal;
 
 /// Adds the line of what a run made.
 pub fn push_made(text: &mut Vec<u8>, tasks: u32, objects: u32) -> Result<(), AllocError>

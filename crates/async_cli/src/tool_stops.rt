@@ -5,10 +5,10 @@ ghost use Rattle.async_cli.specs.Stops.{tool_status, tool_text, why_not};
 ghost use Rattle.async_cli.specs.Texts.{numbered};
 
 use crate::stops::Stop;
-use run_journal::TaskLook;
 use run_report::push_numbered;
 use std::alloc::AllocError;
 use straight_core::Entry;
+use straight_journal::TaskLook;
 
 /// Why a command that waits for nothing gave no other answer.
 #[derive(Clone, Copy, Debug, PartialEq, Eq)]

@@ -1,9 +1,9 @@
 //! Journals that are replayed.
 use crate::code::{Row, code_of};
-use run_journal::{Entry, ReplayFault, TaskLook, read_journal, replay};
 use std::alloc::Global;
 use std::test::Fail;
 use straight_core::Straight;
+use straight_journal::{Entry, ReplayFault, TaskLook, read_journal, replay};
 
 const LAUNCHED: &[Row] = &[Row::Launch(0, None), Row::Return(None)];
 

@@ -1,7 +1,7 @@
 //! The text of journals.
-use run_journal::{Entry, JournalFault, journal_text, push_journal, read_journal};
 use std::alloc::{AllocError, Global};
 use std::test::Fail;
+use straight_journal::{Entry, JournalFault, journal_text, push_journal, read_journal};
 
 #[test]
 fn writes_and_reads_entries(rt: HostRuntime) -> Result<(), Fail> {

@@ -1,207 +1,144 @@
--- Bursts of local steps: how they go on, what they make, and how many rows they take.
-use Rattle.std.proofs.Common.{◌≡◌, ℕ, zero, suc, ◌+◌, ◌<◌, ◌≤◌, Bool, true, false, cond, List, [], ◌∷◌, length, Option, Some, None, is_some, slice_get, slice_set, refl, sym, ap, ◌∙◌, arith, length-set}
-use Rattle.ir_forms.specs.declared.runs.ObjNo.{ObjNo}
-use Rattle.straight_core.specs.declared.code.LocalRow.{LocalRow}
-use Rattle.straight_core.specs.declared.code.LocalRow.TheVariants.{Constant, Add}
-use Rattle.straight_core.specs.declared.code.RootRow.{RootRow}
-use Rattle.straight_core.specs.declared.code.RootRow.TheVariants.{Local, Launch, Await, Return}
-use Rattle.straight_core.specs.declared.tasks.Body.{Body}
-use Rattle.straight_core.specs.declared.tasks.Body.TheVariants.{Root, Launched}
-use Rattle.straight_core.specs.declared.tasks.Task.{Task}
-use Rattle.straight_core.specs.State.{State}
-use Rattle.straight_core.specs.Step.{core_step, task_step, ready_step, body_step, root_step, launched_step, region_rows, goes_on, after_local}
-use Rattle.straight_core.specs.Journal.{burst, counted, option_then, local_step, next_is_local, task_is_local, body_is_local, is_local_row}
-use Rattle.straight_core.specs.Ahead.{is_local_at, local_from, local_ahead}
-use Rattle.straight_core.proofs.Kept.{local_body, local_place}
+-- Bursts within limits: how they go on, what they leave, and which bursts without limits they are.
+use Rattle.std.proofs.Common.{◌≡◌, ◌≢◌, ◌⊎◌, ℕ, zero, suc, ◌+◌, ◌-◌, ◌<◌, ◌≤◌, Bool, true, false, cond, Option, Some, None, refl, sym, ap, subst, ◌∙◌, inl, inr, arith}
+use Rattle.low_forms.specs.declared.code.LowModule.{LowModule}
+use Rattle.source_meaning.specs.Values.{maybe}
+use Rattle.step_core.specs.declared.limits.Limit.{Limit}
+use Rattle.step_core.specs.declared.limits.Limits.{Limits}
+use Rattle.step_core.specs.Shared.{Took, Stuck, Idle, Stopped, Takes}
+use Rattle.step_core.specs.Core.{Core, core_step, limit_at, limited, limited_step}
+use Rattle.step_core.specs.Runs.{after, step, next_is_local, one_local, one_more, burst, longest_burst}
+use Rattle.run_journal.specs.Within.{step_within, one_local_within, burst_within}
+use Rattle.run_journal.proofs.Steps.{OnlySteps, no_steps, more_steps, local_only, step_free}
 
-pub get_within : {X : Type 0} (xs : List X) (i : ℕ) (x : X) → slice_get xs i ≡ Some x → i < length xs
-get_within [] i x is = absurd (cc)
-get_within (y ∷ ys) zero x is = omega arith
-get_within (y ∷ ys) (suc i) x is = let rest = get_within ys i x is in omega arith
+-- ---- how a burst goes on
 
-pub get-set_same : {X : Type 0} (xs : List X) (i : ℕ) (x : X) → i < length xs → slice_get (slice_set xs i x) i ≡ Some x
-get-set_same [] i x within = absurd (omega arith)
-get-set_same (y ∷ ys) zero x within = refl
-get-set_same (y ∷ ys) (suc i) x within = get-set_same ys i x (omega arith)
+abbrev goes_of : (Core → ℕ × Core) → Core → Option Core → ℕ × Core
+goes_of go c o = one_more (maybe None (λ next. Some (go next)) o) c
 
--- only steps were taken
-pub record OnlySteps (s after : State) (n : ℕ) : Type 0 where
-  pub steps : after.steps ≡ s.steps + n
-  pub tasks : length after.tasks ≡ length s.tasks
-  pub objects : length after.objects ≡ length s.objects
+pub one_more_burst : (l : Limits) (code : LowModule) (n t : ℕ) (c next : Core) → next_is_local code c t ≡ true → step_within l code t c ≡ Some next →
+    burst_within l code (suc n) t c ≡ ((burst_within l code n t next).0 + 1, (burst_within l code n t next).1)
+unfolding burst_within
+one_more_burst l code n t c next is step =
+    let one : one_local_within l code t c ≡ Some next = ap (λ b. cond b (step_within l code t c) None) is ∙ step in
+    ap (goes_of (burst_within l code n t) c) one
 
-cond_some : (b : Bool) (x : Option State) (y : State) → cond b x None ≡ Some y → (b ≡ true) × (x ≡ Some y)
-cond_some true x y is = (refl, is)
-cond_some false x y is = absurd (cc)
+none_local : (b : Bool) (o : Option Core) → (b ≡ false) ⊎ (o ≡ None) → cond b o None ≡ None
+none_local true o (inl is) = absurd (cc)
+none_local true o (inr is) = is
+none_local false o why = refl
 
-local_took : (s next : State) (t : ℕ) → local_step s t ≡ Some next → (next_is_local s t ≡ true) × (core_step s t ≡ Some next)
-local_took s next t is = cond_some (next_is_local s t) (core_step s t) next is
+pub burst_ends : (l : Limits) (code : LowModule) (n t : ℕ) (c : Core) → (next_is_local code c t ≡ false) ⊎ (step_within l code t c ≡ None) →
+    burst_within l code n t c ≡ (0, c)
+unfolding burst_within
+burst_ends l code zero t c why = refl
+burst_ends l code (suc n) t c why = ap (goes_of (burst_within l code n t) c) (none_local (next_is_local code c t) (step_within l code t c) why)
 
--- local rows
+pub none_left : (l : Limits) (code : LowModule) (t : ℕ) (c : Core) → burst_within l code 0 t c ≡ (0, c)
+unfolding burst_within
+none_left l code t c = refl
 
-root_goes : (s : State) (t : ℕ) (task : Task) (row : Option RootRow) → is_local_row row ≡ true →
-    (local : LocalRow) × (root_step s t task row ≡ Some (goes_on s t (after_local local task)))
-root_goes s t task None is = absurd (cc)
-root_goes s t task (Some (Local row)) is = (row, refl)
-root_goes s t task (Some (Launch to region)) is = absurd (cc)
-root_goes s t task (Some (Await token)) is = absurd (cc)
-root_goes s t task (Some (Return values)) is = absurd (cc)
+-- ---- what it leaves
 
-launched_goes : (s : State) (t : ℕ) (task : Task) (token : ObjNo) (row : Option LocalRow) → is_some row ≡ true →
-    (local : LocalRow) × (launched_step s t task token row ≡ Some (goes_on s t (after_local local task)))
-launched_goes s t task token None is = absurd (cc)
-launched_goes s t task token (Some row) is = (row, refl)
+abbrev Left : Core → ℕ → ℕ → ℕ × Core → Type 0
+Left c t n taken = OnlySteps c taken.1 t taken.0 × (taken.0 ≤ n)
 
-body_goes : (s : State) (t : ℕ) (task : Task) (body : Body) → body_is_local s task body ≡ true →
-    (local : LocalRow) × (body_step s t task body ≡ Some (goes_on s t (after_local local task)))
-body_goes s t task Root is = root_goes s t task (slice_get s.code.root task.place) is
-body_goes s t task (Launched region token) is =
-    launched_goes s t task token (slice_get (region_rows s.code.regions region) task.place) is
+left_at : (l : Limits) (code : LowModule) (n t : ℕ) (c : Core) (b : Bool) (o : Option Core) → next_is_local code c t ≡ b → step_within l code t c ≡ o →
+    ((next : Core) → Left next t n (burst_within l code n t next)) → Left c t (suc n) (goes_of (burst_within l code n t) c (cond b o None))
+left_at l code n t c false o is took rest = (no_steps c t, omega arith)
+left_at l code n t c true None is took rest = (no_steps c t, omega arith)
+left_at l code n t c true (Some next) is took rest =
+    let more = rest next in
+    let both : OnlySteps c (burst_within l code n t next).1 t (1 + (burst_within l code n t next).0) = more_steps c next _ t 1 _ (local_only l code c next t is took) more.0 in
+    (subst (λ k. OnlySteps c (burst_within l code n t next).1 t k) (omega arith) both, omega (arith, more.1))
 
-same_local : (s : State) (task : Task) (body : Body) → body_is_local s task body ≡ is_local_at s.code body task.place
-same_local s task Root = refl
-same_local s task (Launched region token) = refl
+pub burst_left : (l : Limits) (code : LowModule) (n t : ℕ) (c : Core) → Left c t n (burst_within l code n t c)
+unfolding burst_within
+burst_left l code zero t c = (no_steps c t, omega arith)
+burst_left l code (suc n) t c = left_at l code n t c (next_is_local code c t) (step_within l code t c) refl refl (λ next. burst_left l code n t next)
 
-ready_goes : (s : State) (t : ℕ) (task : Task) (parked : Option ObjNo) (next : State) → body_is_local s task task.body ≡ true →
-    ready_step s t task parked ≡ Some next → (local : LocalRow) × (next ≡ goes_on s t (after_local local task))
-ready_goes s t task (Some object) next is step = absurd (cc)
-ready_goes s t task None next is step =
-    let row = body_goes s t task task.body is in
-    (row.0, (let e = row.1 in cc))
+-- ---- it is the burst without limits, or ends before a step that would pass one
 
-task_goes : (s : State) (t : ℕ) (o : Option (Option Task)) (next : State) → task_is_local s o ≡ true → task_step s t o ≡ Some next →
-    (task : Task) × (next ≡ goes_on s t task)
-task_goes s t None next is step = absurd (cc)
-task_goes s t (Some None) next is step = absurd (cc)
-task_goes s t (Some (Some task)) next is step =
-    let row = ready_goes s t task task.parked next is step in (after_local row.0 task, row.1)
+abbrev pub Near : Limits → LowModule → ℕ → ℕ → Core → ℕ × Core → ℕ × Core → Type 0
+Near l code n t c within free =
+    (within ≡ free) ⊎ ((within.0 < n) × (passed : Limit) × (limited_step l code within.1 t ≡ Stopped passed))
 
-pub local_keeps : (s next : State) (t : ℕ) → next_is_local s t ≡ true → core_step s t ≡ Some next → OnlySteps s next 1
-local_keeps s next t is step =
-    let went = task_goes s t (slice_get s.tasks t) next is step in
-    rw went.1 (record { steps = refl; tasks = length-set s.tasks t (Some went.0); objects = refl })
+-- how a step within limits and one without are near
+data Steps (l : Limits) (code : LowModule) (t : ℕ) (c : Core) : Type 0 where
+  Both : (next : Core) → step_within l code t c ≡ Some next → step code t c ≡ Some next → Steps l code t c
+  Neither : step_within l code t c ≡ None → step code t c ≡ None → Steps l code t c
+  Limited : (passed : Limit) → step_within l code t c ≡ None → limited_step l code c t ≡ Stopped passed → Steps l code t c
 
--- bursts
+steps_by : (l : Limits) (code : LowModule) (t : ℕ) (c : Core) (passed : Option Limit) (took : Took Core) → limit_at l code c t ≡ passed → core_step code c t ≡ took → Steps l code t c
+steps_by l code t c passed Stuck p is = Neither (ap (λ x. after (limited (limit_at l code c t) x)) is) (ap after is)
+steps_by l code t c passed Idle p is = Neither (ap (λ x. after (limited (limit_at l code c t) x)) is) (ap after is)
+steps_by l code t c passed (Stopped m) p is = Neither (ap (λ x. after (limited (limit_at l code c t) x)) is) (ap after is)
+steps_by l code t c None (Takes next ws act) p is =
+    Both next (ap (λ x. after (limited (limit_at l code c t) x)) is ∙ ap (λ o. after (limited o (Takes next ws act))) p) (ap after is)
+steps_by l code t c (Some m) (Takes next ws act) p is =
+    let stops : limited_step l code c t ≡ Stopped m = ap (λ x. limited (limit_at l code c t) x) is ∙ ap (λ o. limited o (Takes next ws act)) p in
+    Limited m (ap after stops) stops
 
-pub record Goes (n : ℕ) (s : State) (t : ℕ) : Type 0 where
-  pub next : State
-  pub left : ℕ
-  pub took : core_step s t ≡ Some next
-  pub is_local : next_is_local s t ≡ true
-  pub fewer : n ≡ left + 1
-  pub count : (burst n s t).0 ≡ (burst left next t).0 + 1
-  pub state : (burst n s t).1 ≡ (burst left next t).1
+steps_are : (l : Limits) (code : LowModule) (t : ℕ) (c : Core) → Steps l code t c
+steps_are l code t c = steps_by l code t c (limit_at l code c t) (core_step code c t) refl refl
 
-goes_at : (n : ℕ) (s : State) (t : ℕ) (o : Option State) → local_step s t ≡ o →
-    0 < (counted (option_then (λ next. burst n next t) o) s).0 → Goes (suc n) s t
-unfolding burst
-goes_at n s t None is some = absurd (omega arith)
-goes_at n s t (Some next) is some =
-    let took = local_took s next t is in
+near_more : (l : Limits) (code : LowModule) (n t : ℕ) (c : Core) (within free : ℕ × Core) → Near l code n t c within free →
+    Near l code (suc n) t c (within.0 + 1, within.1) (free.0 + 1, free.1)
+near_more l code n t c within free (inl same) = inl (ap (λ p. (p.0 + 1, p.1)) same)
+near_more l code n t c within free (inr stops) = inr (omega (arith, stops.0), stops.1, stops.2)
+
+near_step : (l : Limits) (code : LowModule) (n t : ℕ) (c : Core) → ((next : Core) → Near l code n t c (burst_within l code n t next) (burst code n t next)) → Steps l code t c →
+    Near l code (suc n) t c (goes_of (burst_within l code n t) c (step_within l code t c)) (goes_of (burst code n t) c (step code t c))
+near_step l code n t c rest (Both next within free) =
+    rw (within, free) (near_more l code n t c (burst_within l code n t next) (burst code n t next) (rest next))
+near_step l code n t c rest (Neither within free) = rw (within, free) (inl refl)
+near_step l code n t c rest (Limited passed within stops) = rw within (inr (omega arith, passed, stops))
+
+near_at : (l : Limits) (code : LowModule) (n t : ℕ) (c : Core) (b : Bool) → ((next : Core) → Near l code n t c (burst_within l code n t next) (burst code n t next)) →
+    Near l code (suc n) t c (goes_of (burst_within l code n t) c (cond b (step_within l code t c) None)) (goes_of (burst code n t) c (cond b (step code t c) None))
+near_at l code n t c false rest = inl refl
+near_at l code n t c true rest = near_step l code n t c rest (steps_are l code t c)
+
+pub burst_near : (l : Limits) (code : LowModule) (n t : ℕ) (c : Core) → Near l code n t c (burst_within l code n t c) (burst code n t c)
+unfolding burst_within burst
+burst_near l code zero t c = inl refl
+burst_near l code (suc n) t c = near_at l code n t c (next_is_local code c t) (λ next. burst_near l code n t next)
+
+-- ---- the loop that takes a burst
+
+-- so many of its steps were taken
+pub record IsBegun (l : Limits) (code : LowModule) (start now : Core) (t taken : ℕ) : Type 0 where
+  pub rest : burst_within l code longest_burst t start
+      ≡ ((burst_within l code (longest_burst - taken) t now).0 + taken, (burst_within l code (longest_burst - taken) t now).1)
+  pub keeps : OnlySteps start now t taken
+
+pub none_begun : (l : Limits) (code : LowModule) (start : Core) (t : ℕ) → IsBegun l code start start t 0
+none_begun l code start t = record {
+  rest = ap (λ n. (n, (burst_within l code longest_burst t start).1)) (omega arith);
+  keeps = no_steps start t;
+}
+
+pub next_begun : (l : Limits) (code : LowModule) (start now next : Core) (t taken : ℕ) → IsBegun l code start now t taken → taken < longest_burst →
+    next_is_local code now t ≡ true → step_within l code t now ≡ Some next → IsBegun l code start next t (taken + 1)
+next_begun l code start now next t taken so below is step =
+    let left : longest_burst - taken ≡ suc (longest_burst - (taken + 1)) = omega (arith, below) in
+    let one : burst_within l code (longest_burst - taken) t now
+    ≡ ((burst_within l code (longest_burst - (taken + 1)) t next).0 + 1, (burst_within l code (longest_burst - (taken + 1)) t next).1) =
+    ap (λ n. burst_within l code n t now) left ∙ one_more_burst l code (longest_burst - (taken + 1)) t now next is step in
     record {
-      next = next;
-      left = n;
-      took = took.1;
-      is_local = took.0;
-      fewer = omega arith;
-      count = rw is refl;
-      state = rw is refl;
+      rest = so.rest ∙ (ap (λ p. (p.0 + taken, p.1)) one
+          ∙ ap (λ n. (n, (burst_within l code (longest_burst - (taken + 1)) t next).1)) (omega arith));
+      keeps = more_steps start now next t taken 1 so.keeps (local_only l code now next t is step);
     }
 
-pub burst_goes : (n : ℕ) (s : State) (t : ℕ) → 0 < (burst n s t).0 → Goes n s t
-unfolding burst
-burst_goes zero s t some = absurd (omega arith)
-burst_goes (suc n) s t some = goes_at n s t (local_step s t) refl some
+pub begun_ends : (l : Limits) (code : LowModule) (start now : Core) (t taken : ℕ) → IsBegun l code start now t taken →
+    (next_is_local code now t ≡ false) ⊎ (step_within l code t now ≡ None) → burst_within l code longest_burst t start ≡ (taken, now)
+begun_ends l code start now t taken so why =
+    so.rest ∙ (ap (λ p. (p.0 + taken, p.1)) (burst_ends l code (longest_burst - taken) t now why) ∙ ap (λ n. (n, now)) (omega arith))
 
-none_at : (n : ℕ) (s : State) (t : ℕ) (o : Option State) →
-    (counted (option_then (λ next. burst n next t) o) s).0 ≡ 0 → (counted (option_then (λ next. burst n next t) o) s).1 ≡ s
-none_at n s t None none = refl
-none_at n s t (Some next) none = absurd (omega arith)
-
-pub burst_none : (n : ℕ) (s : State) (t : ℕ) → (burst n s t).0 ≡ 0 → (burst n s t).1 ≡ s
-unfolding burst
-burst_none zero s t none = refl
-burst_none (suc n) s t none = none_at n s t (local_step s t) none
-
-stuck_at : (n : ℕ) (s : State) (t : ℕ) (o : Option State) → local_step s t ≡ o → core_step s t ≡ None →
-    (counted (option_then (λ next. burst n next t) o) s).0 ≡ 0
-stuck_at n s t None is none = refl
-stuck_at n s t (Some next) is none =
-    let took : core_step s t ≡ Some next = (local_took s next t is).1 in
-    let both : Some next ≡ None = sym took ∙ none in
-    cc both
-
-pub burst_stuck : (n : ℕ) (s : State) (t : ℕ) → core_step s t ≡ None → (burst n s t).0 ≡ 0
-unfolding burst
-burst_stuck zero s t none = refl
-burst_stuck (suc n) s t none = stuck_at n s t (local_step s t) refl none
-
-le_at : (n : ℕ) (s : State) (t : ℕ) (o : Option State) → ((next : State) → (burst n next t).0 ≤ n) →
-    (counted (option_then (λ next. burst n next t) o) s).0 ≤ suc n
-le_at n s t None rest = omega arith
-le_at n s t (Some next) rest = omega (arith, rest next)
-
-pub burst_le : (n : ℕ) (s : State) (t : ℕ) → (burst n s t).0 ≤ n
-unfolding burst
-burst_le zero s t = omega arith
-burst_le (suc n) s t = le_at n s t (local_step s t) (λ next. burst_le n next t)
-
-keeps_at : (n : ℕ) (s : State) (t : ℕ) (o : Option State) → local_step s t ≡ o →
-    ((next : State) → OnlySteps next (burst n next t).1 (burst n next t).0) →
-    OnlySteps s (counted (option_then (λ next. burst n next t) o) s).1 (counted (option_then (λ next. burst n next t) o) s).0
-keeps_at n s t None is rests = record { steps = omega arith; tasks = refl; objects = refl }
-keeps_at n s t (Some next) is rests =
-    let took = local_took s next t is in
-    let first = local_keeps s next t took.0 took.1 in
-    let rest = rests next in
-    record { steps = omega arith; tasks = rest.tasks ∙ first.tasks; objects = rest.objects ∙ first.objects }
-
-pub burst_keeps : (n : ℕ) (s : State) (t : ℕ) → OnlySteps s (burst n s t).1 (burst n s t).0
-unfolding burst
-burst_keeps zero s t = record { steps = omega arith; tasks = refl; objects = refl }
-burst_keeps (suc n) s t = keeps_at n s t (local_step s t) refl (λ next. burst_keeps n next t)
-
--- how many rows a burst takes
-
-after_local_parked : (row : LocalRow) (task : Task) → (after_local row task).parked ≡ task.parked
-after_local_parked (Constant to bits) task = refl
-after_local_parked (Add to left right) task = refl
-
-is_here : (s : State) (t : ℕ) (task : Task) → slice_get s.tasks t ≡ Some (Some task) →
-    next_is_local s t ≡ is_local_at s.code task.body task.place
-is_here s t task there = ap (λ o. task_is_local s o) there ∙ same_local s task task.body
-
-goes_here : (s : State) (t : ℕ) (task : Task) → slice_get s.tasks t ≡ Some (Some task) → task.parked ≡ None →
-    is_local_at s.code task.body task.place ≡ true → (row : LocalRow) × (local_step s t ≡ Some (goes_on s t (after_local row task)))
-goes_here s t task there ready is =
-    let row = body_goes s t task task.body (same_local s task task.body ∙ is) in
-    let step : core_step s t ≡ Some (goes_on s t (after_local row.0 task)) =
-    ap (λ o. task_step s t o) there ∙ ap (λ parked. ready_step s t task parked) ready ∙ row.1 in
-    (row.0, rw (is_here s t task there ∙ is) step)
-
-ahead_at : (n : ℕ) (s : State) (t : ℕ) (task : Task) (b : Bool) → is_local_at s.code task.body task.place ≡ b →
-    slice_get s.tasks t ≡ Some (Some task) → task.parked ≡ None →
-    ((next : State) (later : Task) → slice_get next.tasks t ≡ Some (Some later) → later.parked ≡ None →
-    (burst n next t).0 ≡ local_ahead next.code later n) →
-    (burst (suc n) s t).0 ≡ local_ahead s.code task (suc n)
-unfolding burst local_from
-ahead_at n s t task false is there ready rest =
-    let none : local_step s t ≡ None = rw (is_here s t task there ∙ is) refl in
-    rw (none, is) refl
-ahead_at n s t task true is there ready rest =
-    let went = goes_here s t task there ready is in
-    let later : Task = after_local went.0 task in
-    let next : State = goes_on s t later in
-    let within : t < length s.tasks = get_within s.tasks t (Some task) there in
-    let counted : (burst n next t).0 ≡ local_from (is_local_at s.code later.body) n later.place =
-    rest next later (get-set_same s.tasks t (Some later) within) (after_local_parked went.0 task ∙ ready) in
-    let moved : (burst n next t).0 ≡ local_from (is_local_at s.code task.body) n (task.place + 1) =
-    counted ∙ rw (local_body went.0 task, local_place went.0 task) refl in
-    rw (went.1, is) (ap (λ k. k + 1) moved)
-
-pub burst_ahead : (n : ℕ) (s : State) (t : ℕ) (task : Task) → slice_get s.tasks t ≡ Some (Some task) → task.parked ≡ None →
-    (burst n s t).0 ≡ local_ahead s.code task n
-unfolding burst local_from
-burst_ahead zero s t task there ready = refl
-burst_ahead (suc n) s t task there ready =
-    ahead_at n s t task (is_local_at s.code task.body task.place) refl there ready (λ next later is here. burst_ahead n next t later is here)
+pub begun_whole : (l : Limits) (code : LowModule) (start now : Core) (t taken : ℕ) → IsBegun l code start now t taken → longest_burst ≤ taken → taken ≤ longest_burst →
+    burst_within l code longest_burst t start ≡ (longest_burst, now)
+begun_whole l code start now t taken so high low =
+    let none : longest_burst - taken ≡ 0 = omega (arith, high) in
+    let all : taken ≡ longest_burst = omega (arith, high, low) in
+    so.rest ∙ (ap (λ n. ((burst_within l code n t now).0 + taken, (burst_within l code n t now).1)) none
+    ∙ (ap (λ p. (p.0 + taken, p.1)) (none_left l code t now) ∙ ap (λ n. (n, now)) (omega (arith, all))))

@@ -1,5 +1,7 @@
 pub mod Numbers
 pub mod LineLemmas
+pub mod Steps
+pub mod Ahead
 pub mod Bursts
-pub mod BurstLoop
 pub mod Entries
+pub mod Running

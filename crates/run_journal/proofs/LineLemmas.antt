@@ -7,7 +7,7 @@ use Rattle.std.proofs.lemmas.Str.Ascii.{IsAscii-nil, IsAscii-cons, IsAscii-push}
 use Rattle.std.proofs.lemmas.Fmt.{IsAscii-decimal}
 use Rattle.std.proofs.lemmas.List.{take_more, take-take}
 use Rattle.std.proofs.Math.Seq.{take-append_seam}
-use Rattle.straight_core.specs.declared.ends.Entry.{Entry}
+use Rattle.step_core.specs.declared.ends.Entry.{Entry}
 use Rattle.run_journal.specs.Lines.{entry_line, journal_lines, IsEntry, AreEntries, BeginsWithNoEntry, IsFirstBadLine}
 use Rattle.run_journal.specs.Laws.{OneJournal, OneBadLine, NoJournalWithBadLine}
 use Rattle.run_journal.proofs.Numbers.{decimal_lacks, same_split}

@@ -1,7 +1,7 @@
 -- The text of a journal, one line per entry, and the first line that isn't an entry.
 use Rattle.std.specs.Prelude.{◌≡◌, ◌≢◌, ℕ, ◌+◌, ◌<◌, ◌^◌, List, [], ◌∷◌, ◌++◌, length, decimal}
 use Rattle.std.specs.List.{AllByRecursion}
-use Rattle.straight_core.specs.declared.ends.Entry.{Entry}
+use Rattle.step_core.specs.declared.ends.Entry.{Entry}
 
 -- task, one blank, local steps, newline
 abbrev pub entry_line : Entry → List ℕ

@@ -3,7 +3,8 @@ ghost use Rattle.run_journal.specs.declared.faults.JournalFault.TheVariants.{Out
 ghost use Rattle.run_journal.specs.declared.faults.ReplayFault.TheVariants.{OutOfMemory as NoMemory};
 
 use std::alloc::{AllocError, AllocFailed};
-use straight_core::Entry;
+use std::fmt;
+use step_core::Entry;
 use thiserror::Error;
 
 /// Why bytes aren't a journal.
@@ -33,7 +34,7 @@ impl<T: Drop> From<AllocFailed<T>> for JournalFault {
 }
 
 /// What a run has of a task that a journal names: whether it is parked, and how many local steps it can
-/// take in a row, at most 4,096. Those of a parked task are counted from behind its await.
+/// take in a row, at most 4,096. Those of a parked task are counted from behind its await, by its stack alone.
 #[derive(Clone, Copy, Debug, PartialEq, Eq)]
 pub struct TaskLook {
     pub parked: bool,
@@ -41,7 +42,7 @@ pub struct TaskLook {
 }
 
 /// Why a journal isn't replayed.
-#[derive(Clone, Copy, Debug, PartialEq, Eq, Error)]
+#[derive(Clone, Copy, PartialEq, Eq, Error)]
 pub enum ReplayFault {
     /// The number, from 0, of the first entry that isn't possible, the entry, and what the run has of the
     /// task that it names, if that task is there.
@@ -53,6 +54,12 @@ pub enum ReplayFault {
     },
     #[error("out of memory")]
     OutOfMemory,
+}
+
+impl fmt::Debug for ReplayFault {
+    fn fmt<W: fmt::Write>(&self, f: &mut fmt::Formatter<W>) -> fmt::Result {
+        write!(f, "{self}")
+    }
 }
 
 impl From<AllocError> for ReplayFault {

@@ -1,4 +1,5 @@
-ghost use Rattle.run_journal.specs.Laws.{OneJournal, OneBadLine, NoJournalWithBadLine, ImpossibleByCases, ReplayedOrNamed};
+//! Laws of journals.
+ghost use Rattle.run_journal.specs.Laws.{OneJournal, OneBadLine, NoJournalWithBadLine, ImpossibleByCases, ReplayedOrNamed, EntriesWithinArePossible, ReplaysWithinArePossible};
 
 /// A text is the lines of one list of entries at most.
 pub fn one_journal()
@@ -24,4 +25,14 @@ pub fn impossible_by_cases()
 /// A journal is replayed to its end exactly where no entry of it is named as not possible.
 pub fn replayed_or_named()
     ensures { ReplayedOrNamed }
+{}
+
+/// An entry that is possible within limits is possible without them, and leads to the same state.
+pub fn entries_within_are_possible()
+    ensures { EntriesWithinArePossible }
+{}
+
+/// So is a journal.
+pub fn replays_within_are_possible()
+    ensures { ReplaysWithinArePossible }
 {}

@@ -1,116 +1,192 @@
-ghost use Rattle.std.specs.Prelude.{◌≡◌, ◌+◌, ◌-◌, ◌<◌, ◌≤◌, ◌^◌, length, Some, None, IfOk, IfErr, OnOk, MatchBool};
-ghost use Rattle.straight_core.specs.State.{start_state};
-ghost use Rattle.straight_core.specs.Journal.{burst, longest_burst, after_burst, entry_after};
-ghost use Rattle.straight_core.specs.Journal as journals;
-ghost use Rattle.run_journal.specs.Replay.{look, HasReplayFault};
-ghost use Rattle.run_journal.specs.Growth.{HasRoom};
+//! Replays journals, entry by entry.
+ghost use Rattle.std.specs.Prelude.{◌≡◌, ◌<◌, ◌≤◌, ◌^◌, length, slice_get, Some, IfOk, IfErr, OnOk, MatchOption};
+ghost use Rattle.step_core.specs.Core.{start};
+ghost use Rattle.step_core.specs.Runs.{longest_burst};
+ghost use Rattle.step_core.specs.Tasks.{IsReady};
+ghost use Rattle.run_journal.specs.Within.{burst_within, replay_within};
+ghost use Rattle.run_journal.specs.Replay.{HasReplayFault};
+ghost use Rattle.run_journal.specs.Replay as replays;
+ghost use Rattle.run_journal.specs.Taken.{IsTaken};
+ghost use Rattle.run_journal.specs.Growth.{HasRoom, IsWithin};
 
 use crate::faults::{ReplayFault, TaskLook};
-use ir_forms::TaskNo;
+use ir_forms::{ArgValue, FuncNo, TaskNo};
+use low_forms::LowModule;
 use std::alloc::{AllocError, Global};
-use straight_core::{Core, Entry, Step, Straight};
+use step_core::{Core, Entry, Limits, Step};
+use task_stack::{LocalStep, Stack};
 
 /// The number of local steps at which a burst ends without a shared step.
 const LONGEST_BURST: u32 = 4096;
+
+/// What became of an entry: its steps were taken, or it isn't possible, and the run has this of its task.
+#[derive(Clone, Copy)]
+pub(crate) enum Taken {
+    Possible,
+    Refused(Option<TaskLook>),
+}
 
 /// The run that a journal of this code tells, after its last entry.
 ///
 /// # Errors
 ///
-/// `NotARun` with the first entry, from 0, that isn't possible: its task isn't there, is parked, has another
-/// number of local steps, or can't take the step after them. `OutOfMemory` where memory runs out.
+/// `NotARun` with the first entry, from 0, that isn't possible: its task isn't there, is parked, has another number of
+/// local steps, or the step after them is stuck or would pass a limit. `OutOfMemory` where memory runs out.
 pub fn replay<'a>(
     alloc: Global,
-    code: &'a Straight,
-    journal: &[Entry],
+    code: &'a LowModule,
+    entry: FuncNo,
+    args: &[ArgValue],
+    entries: &[Entry],
+    limits: Limits,
 ) -> Result<Core<'a>, ReplayFault>
-    requires { length journal.now ≤ 2 ^ 27 }
-    ensures ok { IfOk result (λ core. journals.replay journal.now (start_state code.now) ≡ Some core) }
-    ensures fault { IfErr result (λ fault. HasReplayFault (start_state code.now) journal.now fault) }
+    requires entry { entry.0 < length code.now.funcs }
+    requires args { length args.now < 2 ^ 31 }
+    requires entries { length entries.now ≤ 2 ^ 27 }
+    ensures ok { IfOk result (λ core. MatchOption (slice_get code.now.funcs entry.0) ⊥ (λ func. (core.code ≡ code.now) × (core.limits ≡ limits) × (replay_within limits code.now entries.now (start entry func args.now) ≡ Some core.core))) }
+    ensures fault { IfErr result (λ fault. MatchOption (slice_get code.now.funcs entry.0) ⊥ (λ func. HasReplayFault limits code.now (start entry func args.now) entries.now fault)) }
 {
-    let mut core = Core::start(alloc, code)?;
-    for (at, entry) in journal.iter().enumerate() {
-        let kept = task_look(&core, entry.task);
-        let taken = take_entry(alloc, &mut core, *entry, kept)?;
-        if !taken {
-            return Err(ReplayFault::NotARun {
-                entry: at as u32,
-                named: *entry,
-                kept,
-            });
-        }
+    match Core::start(alloc, code, entry, args, limits) {
+        Ok(core) => replay_from(alloc, code, core, entries),
+        Err(_) => Err(ReplayFault::OutOfMemory),
     }
-    Ok(core)
 }
 
-/// Whether a task is parked, and how many local steps stand before it in a row, at most 4,096. `None` where it
-/// isn't there.
-pub fn task_look(core: &Core, task: u32) -> Option<TaskLook>
-    ensures { result ≡ look core.now task }
-{
-    let task = TaskNo(task);
-    if !core.is_there(task) {
-        return None;
-    }
-    Some(TaskLook {
-        parked: core.is_parked(task),
-        local: core.local_ahead(task, LONGEST_BURST),
-    })
-}
-
-/// Takes the steps of an entry, of whose task the run has this. `false` where the entry isn't possible; some
-/// of its local steps may then be taken, as where memory runs out.
-pub fn take_entry(
+/// The same from a run in which no step was taken.
+fn replay_from<'a>(
     alloc: Global,
-    core: &mut Core,
-    entry: Entry,
-    kept: Option<TaskLook>,
-) -> Result<bool, AllocError>
-    requires kept { kept ≡ look core.old entry.task }
-    requires within { HasRoom core.old }
-    ensures taken { IfOk result (λ taken. MatchBool taken (entry_after core.old entry ≡ Some core.new) (entry_after core.old entry ≡ None)) }
+    code: &LowModule,
+    mut core: Core<'a>,
+    entries: &[Entry],
+) -> Result<Core<'a>, ReplayFault>
+    requires code { core.code ≡ code.now }
+    requires within { IsWithin 0 core.core }
+    requires entries { length entries.now ≤ 2 ^ 27 }
+    ensures ok { IfOk result (λ last. (last.code ≡ core.entry.code) × (last.limits ≡ core.entry.limits) × (replay_within core.entry.limits core.entry.code entries.now core.entry.core ≡ Some last.core)) }
+    ensures fault { IfErr result (λ fault. HasReplayFault core.entry.limits core.entry.code core.entry.core entries.now fault) }
 {
-    let Some(seen) = kept else {
-        return Ok(false);
-    };
-    if seen.parked || seen.local != entry.local {
-        return Ok(false);
-    }
-    let taken = take_burst(alloc, core, TaskNo(entry.task), entry.local)?;
-    Ok(taken)
-}
-
-/// Takes a burst of so many local steps, and below the longest the shared step that follows. `false` where
-/// this one can't be taken.
-fn take_burst(alloc: Global, core: &mut Core, task: TaskNo, local: u32) -> Result<bool, AllocError>
-    requires burst { (burst longest_burst core.old task.0).0 ≡ local }
-    requires within { HasRoom core.old }
-    ensures taken { IfOk result (λ taken.
-        MatchBool taken
-        (after_burst task.0 (burst longest_burst core.old task.0) ≡ Some core.new)
-        (after_burst task.0 (burst longest_burst core.old task.0) ≡ None)) }
-{
-    take_local(alloc, core, task, local)?;
-    if local == LONGEST_BURST {
-        return Ok(true);
-    }
-    match core.step(alloc, task)? {
-        Step::Stepped => Ok(true),
-        Step::NotReady => Ok(false),
+    match take_entries(alloc, code, &mut core, entries) {
+        Ok(()) => Ok(core),
+        Err(fault) => Err(fault),
     }
 }
 
-/// Takes the local steps of a burst.
-fn take_local(alloc: Global, core: &mut Core, task: TaskNo, local: u32) -> Result<(), AllocError>
-    requires burst { (burst longest_burst core.old task.0).0 ≡ local }
-    requires within { HasRoom core.old }
-    ensures { OnOk result (core.new ≡ (burst longest_burst core.old task.0).1) }
+/// Takes the steps of these entries.
+fn take_entries(
+    alloc: Global,
+    code: &LowModule,
+    core: &mut Core<'_>,
+    entries: &[Entry],
+) -> Result<(), ReplayFault>
+    requires code { core.old.code ≡ code.now }
+    requires within { IsWithin 0 core.old.core }
+    requires entries { length entries.now ≤ 2 ^ 27 }
+    ensures same { OnOk result ((core.new.code ≡ core.old.code) × (core.new.limits ≡ core.old.limits)) }
+    ensures ok { OnOk result (replay_within core.old.limits core.old.code entries.now core.old.core ≡ Some core.new.core) }
+    ensures fault { IfErr result (λ fault. HasReplayFault core.old.limits core.old.code core.old.core entries.now fault) }
 {
-    for _taken in 0..local {
-        match core.step(alloc, task)? {
-            Step::Stepped => {}
-            Step::NotReady => unreachable!(),
+    for (at, entry) in entries.iter().enumerate() {
+        match take_entry(alloc, code, core, *entry)? {
+            Taken::Possible => {}
+            Taken::Refused(kept) => {
+                return Err(ReplayFault::NotARun {
+                    entry: at as u32,
+                    named: *entry,
+                    kept,
+                });
+            }
         }
     }
     Ok(())
+}
+
+/// Takes the steps of an entry. Where it isn't possible, and where memory runs out, some of them may be taken.
+fn take_entry(
+    alloc: Global,
+    code: &LowModule,
+    core: &mut Core<'_>,
+    entry: Entry,
+) -> Result<Taken, AllocError>
+    requires code { core.old.code ≡ code.now }
+    requires room { HasRoom core.old.core }
+    ensures same { (core.new.code ≡ core.old.code) × (core.new.limits ≡ core.old.limits) }
+    ensures taken { IfOk result (λ taken. IsTaken taken core.old.limits core.old.code core.old.core core.new.core entry) }
+{
+    let Some(found) = core.task(TaskNo(entry.task)) else {
+        return Ok(Taken::Refused(None));
+    };
+    match found.parked {
+        Some(_) => {
+            let local = local_ahead(alloc, code, &found.stack)?;
+            Ok(Taken::Refused(Some(TaskLook {
+                parked: true,
+                local,
+            })))
+        }
+        None => take_ready(core, entry),
+    }
+}
+
+/// The same of an entry whose task is ready.
+fn take_ready(core: &mut Core<'_>, entry: Entry) -> Result<Taken, AllocError>
+    requires ready { IsReady core.old.core.plain.tasks entry.task }
+    requires room { HasRoom core.old.core }
+    ensures same { (core.new.code ≡ core.old.code) × (core.new.limits ≡ core.old.limits) }
+    ensures taken { IfOk result (λ taken. IsTaken taken core.old.limits core.old.code core.old.core core.new.core entry) }
+{
+    let task = TaskNo(entry.task);
+    let local = take_burst(core, task)?;
+    let seen = TaskLook {
+        parked: false,
+        local,
+    };
+    if local != entry.local {
+        return Ok(Taken::Refused(Some(seen)));
+    }
+    if local == LONGEST_BURST {
+        return Ok(Taken::Possible);
+    }
+    match core.step(task)? {
+        Step::Stepped => Ok(Taken::Possible),
+        Step::NotReady | Step::Stop(_) => Ok(Taken::Refused(Some(seen))),
+    }
+}
+
+/// Takes the local steps that a task can take in a row, at most 4,096, and gives their number.
+fn take_burst(core: &mut Core<'_>, task: TaskNo) -> Result<u32, AllocError>
+    requires room { HasRoom core.old.core }
+    ensures same { (core.new.code ≡ core.old.code) × (core.new.limits ≡ core.old.limits) }
+    ensures burst { IfOk result (λ local. burst_within core.old.limits core.old.code longest_burst task.0 core.old.core ≡ (local, core.new.core)) }
+{
+    for taken in 0..LONGEST_BURST {
+        if !core.next_is_local(task) {
+            return Ok(taken);
+        }
+        match core.step(task)? {
+            Step::Stepped => {}
+            Step::NotReady | Step::Stop(_) => return Ok(taken),
+        }
+    }
+    Ok(LONGEST_BURST)
+}
+
+/// How many steps a stack can take alone in a row, at most 4,096.
+fn local_ahead(alloc: Global, code: &LowModule, stack: &Stack) -> Result<u32, AllocError>
+    ensures { IfOk result (λ local. local ≡ replays.local_ahead code.now longest_burst stack.now) }
+{
+    let mut copy = stack.copy(alloc)?;
+    take_alone(alloc, code, &mut copy)
+}
+
+/// Takes them, and gives their number.
+fn take_alone(alloc: Global, code: &LowModule, stack: &mut Stack) -> Result<u32, AllocError>
+    ensures { IfOk result (λ local. local ≡ replays.local_ahead code.now longest_burst stack.old) }
+{
+    for taken in 0..LONGEST_BURST {
+        match stack.local(alloc, code)? {
+            LocalStep::Done(_) => {}
+            LocalStep::Shared | LocalStep::Stuck | LocalStep::Deep => return Ok(taken),
+        }
+    }
+    Ok(LONGEST_BURST)
 }

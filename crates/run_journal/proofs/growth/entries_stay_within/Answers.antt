@@ -1,5 +1,5 @@
-use Rattle.run_journal.proofs.Entries.{entry_within}
+use Rattle.run_journal.proofs.Entries.{entries_stay_within}
 use Rattle.run_journal.proofs.growth.entries_stay_within.Goals as goal
 
 pub returns : goal.returns
-returns c = entry_within
+returns _ = entries_stay_within

@@ -1,34 +1,13 @@
--- What the core has of the task says whether the entry is possible, up to the step after its local ones.
-use Rattle.run_journal.proofs.Entries.{gone_refused, parked_refused, other_refused, seen_burst, burst_answer}
+-- A task that isn't there or is parked takes no step.
+use Rattle.std.proofs.Common.{◌∙◌, sym, ap}
+use Rattle.std.specs.Option.{option_copied}
+use Rattle.run_journal.proofs.Running.{refused_gone, refused_parked}
 use Rattle.run_journal.proofs.replaying.take_entry.Goals as goal
-use Rattle.run_journal.proofs.replaying.take_entry.Goals.{then-seen-via-then-seen, then-seen-via-else-seen+then-seen-entry}
 
-pub returns-in_default : goal.returns-in_default
-returns-in_default c =
-    record { taken = gone_refused c.args.core.now c.args.entry c.args.kept c.requires.kept c.in_default.is }
+pub returns-in_default-clause-taken : goal.returns-in_default-clause-taken
+returns-in_default-clause-taken c = refused_gone c.args.core.now c.args.entry (sym c.task.ensures ∙ ap option_copied c.in_default.is)
 
-pub returns-then-seen : goal.returns-then-seen
-returns-then-seen c = record {
-  taken =
-      elim c.then-seen.branch [
-        | then-seen-via-then-seen w ↦
-            parked_refused c.args.core.now c.args.entry c.args.kept c.in-Some.seen c.requires.kept c.in-Some.is w.if-seen.true
-        | then-seen-via-else-seen+then-seen-entry w ↦
-            other_refused c.args.core.now c.args.entry c.args.kept c.in-Some.seen c.requires.kept c.in-Some.is w.if-seen.false
-            w.if-seen-entry.true
-      ];
-}
-
-pub take_burst-requires-clause-burst : goal.take_burst-requires-clause-burst
-take_burst-requires-clause-burst c =
-    seen_burst c.args.core.now c.args.entry.task c.args.kept c.in-Some.seen c.args.entry.local c.requires.kept c.in-Some.is
-    c.if-seen.false c.if-seen-entry.false
-
-pub returns : goal.returns
-returns c = record {
-  taken =
-      burst_answer c.args.core.now c.take_burst.new.core c.args.entry c.in_ok-taken.taken
-      (seen_burst c.args.core.now c.args.entry.task c.args.kept c.in-Some.seen c.args.entry.local c.requires.kept c.in-Some.is
-      c.if-seen.false c.if-seen-entry.false)
-      c.in_ok-taken.ensures.taken;
-}
+pub returns-in_ok-local-in-Some-parked-clause-taken : goal.returns-in_ok-local-in-Some-parked-clause-taken
+returns-in_ok-local-in-Some-parked-clause-taken c =
+    refused_parked c.args.core.now c.args.entry c.args.code.now c.in_ok-local-in-Some-parked.local c.in-Some.found.now c.in-Some-parked.field-0 c.requires.code
+    (sym c.task.ensures ∙ ap option_copied c.in-Some.is) c.in-Some-parked.is c.in_ok-local-in-Some-parked.ensures

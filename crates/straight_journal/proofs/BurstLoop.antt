@@ -3,7 +3,7 @@ use Rattle.std.proofs.Common.{◌≡◌, ℕ, ◌+◌, ◌-◌, ◌<◌, Some, N
 use Rattle.straight_core.specs.State.{State}
 use Rattle.straight_core.specs.Step.{core_step}
 use Rattle.straight_core.specs.Journal.{burst, longest_burst}
-use Rattle.run_journal.proofs.Bursts.{OnlySteps, burst_goes, burst_none, local_keeps}
+use Rattle.straight_journal.proofs.Bursts.{OnlySteps, burst_goes, burst_none, local_keeps}
 
 -- so many steps of a burst from `start` were taken, and it has so many
 pub record IsTaken (start s : State) (t local taken : ℕ) : Type 0 where

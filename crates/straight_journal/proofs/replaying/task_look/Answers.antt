@@ -1,6 +1,6 @@
 -- The rows that stand before a task are its burst once it is ready.
-use Rattle.run_journal.proofs.Entries.{look_seen}
-use Rattle.run_journal.proofs.replaying.task_look.Goals as goal
+use Rattle.straight_journal.proofs.Entries.{look_seen}
+use Rattle.straight_journal.proofs.replaying.task_look.Goals as goal
 
 pub returns : goal.returns
 returns c =

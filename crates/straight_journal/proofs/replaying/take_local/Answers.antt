@@ -1,9 +1,9 @@
 -- The steps of a burst are those that the core takes, one by one.
 use Rattle.std.proofs.Common.{arith}
-use Rattle.run_journal.proofs.Bursts.{burst_le}
-use Rattle.run_journal.proofs.BurstLoop.{next_taken, never_refused, all_taken}
+use Rattle.straight_journal.proofs.Bursts.{burst_le}
+use Rattle.straight_journal.proofs.BurstLoop.{next_taken, never_refused, all_taken}
 use Rattle.straight_core.specs.Journal.{longest_burst}
-use Rattle.run_journal.proofs.replaying.take_local.Goals as goal
+use Rattle.straight_journal.proofs.replaying.take_local.Goals as goal
 
 pub step-requires-clause-steps : goal.step-requires-clause-steps
 step-requires-clause-steps c =

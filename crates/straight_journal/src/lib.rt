@@ -1,0 +1,19 @@
+//! Journals: their text, and the run that a journal replays.
+#![tactic(auto)]
+
+mod faults;
+mod growth;
+mod laws;
+mod reading;
+mod replaying;
+mod writing;
+
+pub use faults::{JournalFault, ReplayFault, TaskLook};
+pub use growth::entries_stay_within;
+pub use laws::{
+    impossible_by_cases, no_journal_with_bad_line, one_bad_line, one_journal, replayed_or_named,
+};
+pub use reading::read_journal;
+pub use replaying::{replay, take_entry, task_look};
+pub use straight_core::Entry;
+pub use writing::{journal_text, push_journal};
