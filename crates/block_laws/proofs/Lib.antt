@@ -1,0 +1,7 @@
+pub mod Words
+pub mod Calm
+pub mod Scopes
+pub mod Within
+pub mod Splits
+pub mod Flow
+pub mod Whole

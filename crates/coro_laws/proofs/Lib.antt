@@ -1,0 +1,15 @@
+pub mod Lists
+pub mod Labels
+pub mod Making
+pub mod Saving
+pub mod Counting
+pub mod OneEdge
+pub mod Leading
+pub mod Awaiting
+pub mod Edging
+pub mod Typed
+pub mod Fitting
+pub mod BlockFits
+pub mod Giving
+pub mod Needing
+pub mod Whole
