@@ -20,32 +20,32 @@ use Rattle.carry_laws.proofs.Basics.{none≢some, some_inj, path_same, found, fo
 
 -- ---- runs one after another
 
-run_on : (p : Program) (qs rs : List Path) (s t u : Order) → run p qs s ≡ Some t → run p rs t ≡ Some u → run p (qs ++ rs) s ≡ Some u
+pub run_on : (p : Program) (qs rs : List Path) (s t u : Order) → run p qs s ≡ Some t → run p rs t ≡ Some u → run p (qs ++ rs) s ≡ Some u
 run_on p [] rs s t u e f = subst (λ x. run p rs x ≡ Some u) (sym (some_inj s t e)) f
 run_on p (q ∷ qs) rs s t u e f = split (step p q s) (λ x h. run_on p qs rs x t u h f) e where
   split : (o : Option Order) → ((x : Order) → run p qs x ≡ Some t → run p (qs ++ rs) x ≡ Some u) → and_then (run p qs) o ≡ Some t → and_then (run p (qs ++ rs)) o ≡ Some u
   split None more h = absurd (none≢some t h)
   split (Some x) more h = more x h
 
-run_one : (p : Program) (q : Path) (s t : Order) → step p q s ≡ Some t → run p (q ∷ []) s ≡ Some t
+pub run_one : (p : Program) (q : Path) (s t : Order) → step p q s ≡ Some t → run p (q ∷ []) s ≡ Some t
 run_one p q s t e = ap (and_then (run p [])) e
 
 module _ (Like : Task → Task → Type 0) (Kept : World → Type 0) (p q : Program) (entry : ℕ) (args : List ArgValue) (A : Agreement Like Kept p q entry args) where
   -- tasks that are alike, or that meet
-  data Held : Task → Task → Type 0 where
+  pub data Held : Task → Task → Type 0 where
     alike : (t u : Task) → Like t u → Held t u
     met : (t u : Task) → Meets Like Kept p q t u → Held t u
 
   -- the tasks that two states have under one path
-  data SameFound : Option Live → Option Live → Type 0 where
+  pub data SameFound : Option Live → Option Live → Type 0 where
     nowhere : SameFound None None
     twice : (l m : Live) → m.path ≡ l.path → m.taken ≡ l.taken → Held l.task m.task → SameFound (Some l) (Some m)
 
   -- under each path
-  abbrev SameLive : List Live → List Live → Type 0
+  abbrev pub SameLive : List Live → List Live → Type 0
   SameLive ls ms = (r : Path) → SameFound (found r ls) (found r ms)
 
-  data SameOrder : Order → Order → Type 0 where
+  pub data SameOrder : Order → Order → Type 0 where
     orders : (ls ms : List Live) (w : World) (log : List Event) → Kept w → SameLive ls ms →
         SameOrder (record { live = ls; world = w; log = log }) (record { live = ms; world = w; log = log })
 
@@ -74,7 +74,7 @@ module _ (Like : Task → Task → Type 0) (Kept : World → Type 0) (p q : Prog
   put l m e n held x y nowhere = nowhere
   put l m e n held x y (twice a b f k h) = twice l m e n held
 
-  same_replaced : (l m : Live) (ls ms : List Live) → m.path ≡ l.path → m.taken ≡ l.taken → Held l.task m.task → SameLive ls ms → SameLive (replaced l ls) (replaced m ms)
+  pub same_replaced : (l m : Live) (ls ms : List Live) → m.path ≡ l.path → m.taken ≡ l.taken → Held l.task m.task → SameLive ls ms → SameLive (replaced l ls) (replaced m ms)
   same_replaced l m ls ms e n held h r =
       subst (λ x. SameFound x (found r (replaced m ms))) (sym (found_replaced l ls r))
       (subst (λ x. SameFound (cond (same_path l.path r) (option_map (λ z. l) (found r ls)) (found r ls)) x) (sym (found_replaced m ms r))
@@ -120,7 +120,7 @@ module _ (Like : Task → Task → Type 0) (Kept : World → Type 0) (p q : Prog
   -- ---- one step of a task
 
   -- the second program's run goes on from here to what is the same
-  abbrev Led : Order → Order → Type 0
+  abbrev pub Led : Order → Order → Type 0
   Led t s' = (qs : List Path) × (t' : Order) × (run q qs t ≡ Some t') × SameOrder s' t'
 
   module _ (ls : List Live) (w : World) (log : List Event) (kept : Kept w) (l : Live) (here : found l.path ls ≡ Some l) where
@@ -217,7 +217,7 @@ module _ (Like : Task → Task → Type 0) (Kept : World → Type 0) (p q : Prog
 
   -- ---- the whole run
 
-  meets_now : (s o : Order) → IsReached p entry args s → IsReached q entry args o → (l m : Live) → task_at s l.path ≡ Some l → task_at o m.path ≡ Some m → Held l.task m.task → Meets Like Kept p q l.task m.task
+  pub meets_now : (s o : Order) → IsReached p entry args s → IsReached q entry args o → (l m : Live) → task_at s l.path ≡ Some l → task_at o m.path ≡ Some m → Held l.task m.task → Meets Like Kept p q l.task m.task
   meets_now s o here there l m e f (alike _ _ h) =
       A.meets l.task m.task h (record { at = s; reached = here; live = l; found = e; task = refl }) (record { at = o; reached = there; live = m; found = f; task = refl })
   meets_now s o here there l m e f (met _ _ h) = h
@@ -234,10 +234,10 @@ module _ (Like : Task → Task → Type 0) (Kept : World → Type 0) (p q : Prog
       let fm : found m.path ms ≡ Some m = subst (λ z. found z ms ≡ Some m) (sym path) fl in
       drive ls w log kept l el l.task m.task (meets_now _ _ here over l m el fm held) refl ms all m fl path taken refl s' is
 
-  one_step : (r : Path) (s t s' : Order) → SameOrder s t → IsReached p entry args s → IsReached q entry args t → step p r s ≡ Some s' → Led t s'
+  pub one_step : (r : Path) (s t s' : Order) → SameOrder s t → IsReached p entry args s → IsReached q entry args t → step p r s ≡ Some s' → Led t s'
   one_step r s t s' (orders ls ms w log kept all) here there is = found_step r ls ms w log kept all here there (found r ls) (found r ms) (all r) refl refl s' is
 
-  reached_on : (o : Program) (s t : Order) (qs : List Path) → IsReached o entry args s → run o qs s ≡ Some t → IsReached o entry args t
+  pub reached_on : (o : Program) (s t : Order) (qs : List Path) → IsReached o entry args s → run o qs s ≡ Some t → IsReached o entry args t
   reached_on o s t qs h e = record { order = h.order ++ qs; comes = run_on o h.order qs (first_order o entry args) s t h.comes e }
 
   runs_so : (rs : List Path) (s t s' : Order) → SameOrder s t → IsReached p entry args s → IsReached q entry args t → run p rs s ≡ Some s' → (t' : Order) × IsReached q entry args t' × SameOrder s' t'
@@ -249,13 +249,13 @@ module _ (Like : Task → Task → Type 0) (Kept : World → Type 0) (p q : Prog
     split None e more f = absurd (none≢some s' f)
     split (Some x) e more f = let to = one_step r s t x h here there e in more x to.1 e to.3 (reached_on q t to.1 to.0 there to.2) f
 
-  none_left : (ms : List Live) → SameLive [] ms → ms ≡ []
+  pub none_left : (ms : List Live) → SameLive [] ms → ms ≡ []
   none_left [] h = refl
   none_left (m ∷ ms) h = absurd (nobody (subst (λ b. SameFound None (cond b (Some m) (found m.path ms))) (path_same m.path) (h m.path))) where
     nobody : SameFound None (Some m) → ⊥
     nobody h = elim h [ ]
 
-  started : SameOrder (first_order p entry args) (first_order q entry args)
+  pub started : SameOrder (first_order p entry args) (first_order q entry args)
   started =
       let l : Live = newly [] (root_task p entry args) in
       let m : Live = newly [] (root_task q entry args) in

@@ -1,0 +1,9 @@
+pub mod Uses
+pub mod Numbered
+pub mod HighCode
+pub mod CoreCode
+pub mod Objects
+pub mod Paths
+pub mod Named
+pub mod Naming
+pub mod Worked

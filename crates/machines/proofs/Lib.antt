@@ -1,0 +1,5 @@
+pub mod Runs
+pub mod Composes
+pub mod Simulated
+pub mod Read
+pub mod Strict

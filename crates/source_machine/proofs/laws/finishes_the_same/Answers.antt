@@ -1,0 +1,5 @@
+use Rattle.source_machine.proofs.Runs.{finishes_the_same as law}
+use Rattle.source_machine.proofs.laws.finishes_the_same.Goals as goal
+
+pub returns : goal.returns
+returns c = law
