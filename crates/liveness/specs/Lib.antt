@@ -1,0 +1,5 @@
+pub mod Live
+pub mod Visits
+pub mod Flow
+pub mod State
+pub mod Tables
