@@ -255,6 +255,7 @@ task of 1
 ^0
   0 = arith.constant #7
   func.return 0
+well formed
 ",
     ),
 ];
