@@ -10,19 +10,20 @@ use lists::Items;
 use std::alloc::{AllocError, Global};
 use std::marker::Model;
 
-/// The values of a function with their types, and the place of the first one of each number.
+/// The values of a function with their types, the place of the first one of each number, and the first free number.
 #[derive(Drop)]
 pub(crate) struct Values {
     values: Items<(ValueNo, Ty)>,
     places: IndexMap<u32, usize>,
+    free: u64,
 }
 
 impl Model for Values {
-    ghost use Rattle.std.specs.Prelude.{List};
+    ghost use Rattle.std.specs.Prelude.{◌≡◌, List};
     ghost use Rattle.ir_forms.specs.contracts.types.Ty as code;
     ghost use Rattle.std.specs.Coded.{codes};
     ghost use Rattle.exec_outline.specs.Places.{Places};
-    ghost use Rattle.exec_outline.specs.Shape.{Typed};
+    ghost use Rattle.exec_outline.specs.Shape.{Typed, first_free};
 
     ghost Value = { Typed };
 
@@ -30,7 +31,7 @@ impl Model for Values {
 
     ghost view = { λ v. v.values };
 
-    ghost invariant = { λ v. Places v.places v.values };
+    ghost invariant = { λ v. Places v.places v.values × (v.free ≡ first_free v.values) };
 }
 
 /// Where a value of each number stands first.
@@ -46,6 +47,17 @@ fn first_places(alloc: Global, values: &[(ValueNo, Ty)]) -> Result<IndexMap<u32,
     Ok(places)
 }
 
+/// The first number that is above those of all values.
+fn first_free(values: &[(ValueNo, Ty)]) -> u64
+    ensures { result ≡ first_free values.now }
+{
+    let mut free = 0;
+    for value in values {
+        free = (value.0.0 as u64 + 1).max(free);
+    }
+    free
+}
+
 impl Values {
     pub(crate) fn of_func(alloc: Global, func: &Func) -> Result<Values, AllocError>
         ensures { IfOk result (λ values. values ≡ values_of func.now) }
@@ -53,18 +65,19 @@ impl Values {
         let mut values = Items::new(alloc);
         push_values(alloc, func, &mut values)?;
         let places = first_places(alloc, values.as_slice())?;
-        Ok(Values { values, places })
+        let free = first_free(values.as_slice());
+        Ok(Values {
+            values,
+            places,
+            free,
+        })
     }
 
     /// The first number that is above those of all values.
     pub(crate) fn first_free(&self) -> u64
         ensures { result ≡ first_free self.now }
     {
-        let mut free = 0;
-        for value in self.values.as_slice() {
-            free = (value.0.0 as u64 + 1).max(free);
-        }
-        free
+        self.free
     }
 
     /// A copy of the type of a value.

@@ -3,7 +3,6 @@
 #![tactic(auto)]
 
 mod before;
-mod edges;
 mod live_map;
 mod solve;
 mod steps;

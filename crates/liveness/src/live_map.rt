@@ -7,7 +7,7 @@ ghost use Rattle.liveness.specs.Tables.{IsTableOf, AreTables};
 ghost use Rattle.liveness.specs.Visits.{most_of, most_in};
 
 use crate::before::list_at;
-use crate::edges::edges;
+use low_forms::edges::edges;
 use crate::solve::{is_over, solve};
 use crate::steps::Steps;
 use crate::table::Table;

@@ -51,8 +51,8 @@ fn edges_from(alloc: Global, is_first: bool, term: &Term) -> Result<Items<usize>
     }
 }
 
-/// By block, where its edges lead.
-pub(crate) fn edges(alloc: Global, func: &LowFunc) -> Result<Vec<Items<usize>>, AllocError>
+/// By block, where its edges lead, in the order of its targets; those of a suspend without the way to its end.
+pub fn edges(alloc: Global, func: &LowFunc) -> Result<Vec<Items<usize>>, AllocError>
     ensures { IfOk result (λ lists. lists.items ≡ edges func.now) }
 {
     let mut lists = Vec::new(alloc);

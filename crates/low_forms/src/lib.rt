@@ -4,7 +4,7 @@
 
 mod code;
 mod critical;
-mod edges;
+pub mod edges;
 mod fits;
 mod flow;
 pub mod laws;
