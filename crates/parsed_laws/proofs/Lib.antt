@@ -2,6 +2,7 @@ pub mod Bytes
 pub mod Fitting
 pub mod Forms
 pub mod Known
+pub mod Levels
 pub mod Numbered
 pub mod Shown
 pub mod Sizes

@@ -64,13 +64,13 @@ same-params r = ap params_of (fold_out-Region Op Region op_unnumbered roll-Regio
 -- ---- functions
 
 -- they differ in numbers alone
-abbrev AreAlike : Func → Func → Type 0
+abbrev pub AreAlike : Func → Func → Type 0
 AreAlike f g = unnumbered_func g ≡ unnumbered_func f
 
-alike : {X : Type 0} (of : Func → X) → ((f : Func) → of (unnumbered_func f) ≡ of f) → (f g : Func) → AreAlike f g → of f ≡ of g
+pub alike : {X : Type 0} (of : Func → X) → ((f : Func) → of (unnumbered_func f) ≡ of f) → (f g : Func) → AreAlike f g → of f ≡ of g
 alike of same f g e = sym (same f) ∙ ap of (sym e) ∙ same g
 
-each-alike : (P : Func → Type 0) → ((f g : Func) → AreAlike f g → P f → P g) → (fs gs : List Func) → map unnumbered_func gs ≡ map unnumbered_func fs → Each P fs → Each P gs
+pub each-alike : (P : Func → Type 0) → ((f g : Func) → AreAlike f g → P f → P g) → (fs gs : List Func) → map unnumbered_func gs ≡ map unnumbered_func fs → Each P fs → Each P gs
 each-alike P one [] [] e h = tt
 each-alike P one [] (g ∷ gs) e h = absurd cc
 each-alike P one (f ∷ fs) [] e h = absurd cc

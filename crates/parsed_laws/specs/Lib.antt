@@ -1,3 +1,4 @@
 pub mod Arguments
+pub mod Levels
 pub mod Runs
 pub mod Texts

@@ -1,5 +1,6 @@
 //! Each function's contract is a law, for the proofs of other crates to cite.
 ghost use Rattle.parsed_laws.specs.Arguments.{FittedAreArguments, ReadsSizes, WrittenAreArguments};
+ghost use Rattle.parsed_laws.specs.Levels.{AcceptsAtLevel};
 ghost use Rattle.parsed_laws.specs.Runs.{AcceptedHasElements, AcceptedHasResults, AcceptedKeepsRuns};
 ghost use Rattle.parsed_laws.specs.Texts.{AcceptsWellFormed, ReadsInOrder, ReadsWellFormed, SoundIsPrintable};
 
@@ -44,6 +45,14 @@ pub fn accepts_well_formed()
     ensures { AcceptsWellFormed }
 {
     ir_forms::numbers_alone();
+}
+
+/// Its level is that of its text, or an earlier one.
+pub fn accepts_at_level()
+    ensures { AcceptsAtLevel }
+{
+    ir_forms::numbers_alone();
+    ir_verify::laws::level_is_least();
 }
 
 /// What the pass of checks makes of such a program has the program's runs, for all arguments that fit.

@@ -11,7 +11,7 @@ use crate::tasks::Task;
 use async_objects::Objects;
 use ir_forms::TaskNo;
 use low_forms::LowModule;
-use task_stack::Stack;
+use task_stack::{Ahead, Stack};
 
 impl<'a> Core<'a> {
     /// Whether a task can go on: its next step is taken, or a limit stops it. This takes no memory.
@@ -56,14 +56,9 @@ fn task_can(code: &LowModule, objects: &Objects, cells: &Cells, task: &Task) -> 
 fn stack_can(code: &LowModule, objects: &Objects, cells: &Cells, stack: &Stack) -> bool
     ensures { result ≡ stack_can code.now objects.now.objects objects.now.counts cells.now.buffers stack.now }
 {
-    match stack.next_counts(code) {
-        Some(count) => may_count(objects, count),
-        None => {
-            if stack.next_is_shared(code) {
-                next_can(code, objects, cells, stack)
-            } else {
-                !stack.next_is_stuck(code)
-            }
-        }
+    match stack.ahead(code) {
+        Ahead::Counts(count) => may_count(objects, count),
+        Ahead::Shared => next_can(code, objects, cells, stack),
+        Ahead::Alone => !stack.next_is_stuck(code),
     }
 }

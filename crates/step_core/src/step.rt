@@ -15,7 +15,7 @@ use crate::running::Core;
 use async_objects::WokenList;
 use ir_forms::TaskNo;
 use std::alloc::AllocError;
-use task_stack::{CountStep, LocalStep};
+use task_stack::{Ahead, CountStep, LocalStep};
 
 /// A task has at most so many frames.
 const MOST_FRAMES: u32 = 1024;
@@ -38,15 +38,10 @@ impl<'a> Core<'a> {
         if !self.tasks.is_ready(task) {
             return Ok(Step::NotReady);
         }
-        match self.tasks.stack(task).next_counts(self.code) {
-            Some(count) => self.count(task, count),
-            None => {
-                if self.tasks.stack(task).next_is_shared(self.code) {
-                    self.shared(task, woken)
-                } else {
-                    self.alone(task)
-                }
-            }
+        match self.tasks.stack(task).ahead(self.code) {
+            Ahead::Counts(count) => self.count(task, count),
+            Ahead::Shared => self.shared(task, woken),
+            Ahead::Alone => self.alone(task),
         }
     }
 

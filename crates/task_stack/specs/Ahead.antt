@@ -1,10 +1,12 @@
 -- What the next instruction of a stack is.
-use Rattle.std.specs.Prelude.{Bool, true, false, List, [], ◌∷◌, Option, None}
+use Rattle.std.specs.Prelude.{◌≡◌, Bool, true, false, List, [], ◌∷◌, Option, Some, None}
 use Rattle.low_forms.specs.declared.code.Instr.{Instr}
 use Rattle.low_forms.specs.Owns.{count_of}
 use Rattle.task_stack.specs.declared.effects.Effect.{Effect}
 use Rattle.task_stack.specs.declared.effects.Effect.TheVariants as effect
 use Rattle.task_stack.specs.declared.frames.Frame.{Frame}
+use Rattle.task_stack.specs.declared.steps.Ahead.{Ahead}
+use Rattle.task_stack.specs.declared.steps.Ahead.TheVariants as ahead
 use Rattle.task_stack.specs.declared.steps.CountStep.{CountStep}
 use Rattle.task_stack.specs.Registers.{value}
 use Rattle.task_stack.specs.Frames.{Stack}
@@ -24,6 +26,12 @@ counted _ = None
 abbrev pub is_stuck : Local → Bool
 is_stuck Stuck = true
 is_stuck _ = false
+
+-- the next step is of this kind: it counts so, or counts nothing and is shared, or neither
+abbrev pub IsAhead : Ahead → Option CountStep → Bool → Type 0
+IsAhead (ahead.Counts c) counts shared = counts ≡ Some c
+IsAhead ahead.Shared counts shared = (counts ≡ None) × (shared ≡ true)
+IsAhead ahead.Alone counts shared = (counts ≡ None) × (shared ≡ false)
 
 -- ---- by what instructions do
 

@@ -1,12 +1,12 @@
 //! What the next instruction of a stack is, before it is taken.
 ghost use Rattle.std.specs.Prelude.{◌≡◌, None};
 ghost use Rattle.task_stack.specs.Local.{free_step};
-ghost use Rattle.task_stack.specs.Ahead.{is_shared, counted, inner_shared, end_shared, inner_counts};
+ghost use Rattle.task_stack.specs.Ahead.{IsAhead, is_shared, counted, inner_shared, end_shared, inner_counts};
 
 use crate::effects::{Effect, effect_of};
 use crate::local::{count_step, standing};
 use crate::stack::Stack;
-use crate::steps::CountStep;
+use crate::steps::{Ahead, CountStep};
 use low_forms::{Instr, LowModule};
 
 impl Stack {
@@ -23,16 +23,41 @@ impl Stack {
         }
     }
 
-    /// What the next instruction counts, if it is one that counts references of an object.
-    pub fn next_counts(&self, code: &LowModule) -> Option<CountStep>
-        ensures { result ≡ counted (free_step code.now self.now) }
+    /// What kind of step the next instruction is.
+    pub fn ahead(&self, code: &LowModule) -> Ahead
+        ensures { IsAhead result (counted (free_step code.now self.now)) (is_shared (free_step code.now self.now)) }
     {
         let Some(stands) = standing(code, self.top.current.place) else {
-            return None;
+            return Ahead::Alone;
         };
         match stands.instrs.first() {
-            Some(instr) => self.counts(effect_of(instr.kind), instr),
-            None => None,
+            Some(instr) => self.inner_ahead(effect_of(instr.kind), instr),
+            None => self.end_ahead(effect_of(stands.term.instr.kind)),
+        }
+    }
+
+    fn inner_ahead(&self, effect: Effect, instr: &Instr) -> Ahead
+        ensures { IsAhead result (inner_counts effect instr.now self.now) (inner_shared effect) }
+    {
+        match self.counts(effect, instr) {
+            Some(count) => Ahead::Counts(count),
+            None => {
+                if inner_is_shared(effect) {
+                    Ahead::Shared
+                } else {
+                    Ahead::Alone
+                }
+            }
+        }
+    }
+
+    fn end_ahead(&self, effect: Effect) -> Ahead
+        ensures { IsAhead result None (end_shared effect self.now) }
+    {
+        if self.end_is_shared(effect) {
+            Ahead::Shared
+        } else {
+            Ahead::Alone
         }
     }
 

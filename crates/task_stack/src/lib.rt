@@ -18,4 +18,4 @@ pub use effects::{Effect, Number, effect_of};
 pub use frames::{Activation, Frame, Place, Saved};
 pub use registers::Registers;
 pub use stack::Stack;
-pub use steps::{CountStep, LocalStep};
+pub use steps::{Ahead, CountStep, LocalStep};

@@ -192,8 +192,8 @@ impl Stack {
         ensures err { OnErr result (self.new ≡ self.old) }
     {
         match effect_of(term.instr.kind) {
-            Effect::Jumps => self.jump(alloc, func, term, 0),
-            Effect::Branches => self.branch(alloc, func, term),
+            Effect::Jumps => self.jump(func, term, 0),
+            Effect::Branches => self.branch(func, term),
             Effect::Calls => self.call(alloc, code, &term.instr),
             Effect::Returns => self.give_back(alloc, code, &term.instr),
             Effect::Fails => self.fail(code, &term.instr),
@@ -287,13 +287,7 @@ impl Stack {
     }
 
     /// To one of the targets, with what its arguments hold.
-    fn jump(
-        &mut self,
-        alloc: Global,
-        func: &LowFunc,
-        term: &Term,
-        k: usize,
-    ) -> Result<LocalStep, AllocError>
+    fn jump(&mut self, func: &LowFunc, term: &Term, k: usize) -> Result<LocalStep, AllocError>
         requires { self.old.top.current.place.at + 2 < 2 ^ 64 }
         ensures step { IfOk result (λ step. IsLocal step self.old self.new (jumps func.now (slice_get term.now.targets k) self.old)) }
         ensures err { OnErr result (self.new ≡ self.old) }
@@ -301,20 +295,17 @@ impl Stack {
         let Some(target) = term.targets.get(k) else {
             return Ok(LocalStep::Stuck);
         };
-        let vals = self.top.current.regs.values(alloc, target.args.as_slice())?;
-        self.go(
-            params_of(func, target.block),
-            Some(target.block),
-            vals.as_slice(),
-        )
+        self.top
+            .current
+            .regs
+            .read(target.args.as_slice(), &mut self.passed)?;
+        let regs = params_of(func, target.block);
+        self.top
+            .go(regs, Some(target.block), self.passed.as_slice())?;
+        Ok(DONE)
     }
 
-    fn branch(
-        &mut self,
-        alloc: Global,
-        func: &LowFunc,
-        term: &Term,
-    ) -> Result<LocalStep, AllocError>
+    fn branch(&mut self, func: &LowFunc, term: &Term) -> Result<LocalStep, AllocError>
         requires { self.old.top.current.place.at + 2 < 2 ^ 64 }
         ensures step { IfOk result (λ step. IsLocal step self.old self.new (jumps func.now (slice_get term.now.targets (branch (number (operands self.old term.now.instr) 0))) self.old)) }
         ensures err { OnErr result (self.new ≡ self.old) }
@@ -325,7 +316,7 @@ impl Stack {
             .regs
             .number(term.instr.operands.as_slice(), 0);
         let k = if truth == 0 { 1 } else { 0 };
-        self.jump(alloc, func, term, k)
+        self.jump(func, term, k)
     }
 
     /// A frame that was copied goes on at the first target, and its copy at the second.

@@ -77,6 +77,17 @@ impl Registers {
         Ok(vals)
     }
 
+    /// Has the list hold what all of these registers hold.
+    pub(crate) fn read(&self, regs: &[Reg], vals: &mut Vec<Val>) -> Result<(), AllocError>
+        ensures { OnOk result (vals.new.items ≡ values_at self.now regs.now) }
+    {
+        vals.clear();
+        for reg in regs {
+            vals.push(self.get(*reg))?;
+        }
+        Ok(())
+    }
+
     /// Gives these registers these values, one after another. Those before one that were given none are then the number
     /// 0. Without memory nothing has changed.
     pub(crate) fn bind(&mut self, regs: &[Reg], vals: &[Val]) -> Result<(), AllocError>

@@ -15,6 +15,8 @@ pub struct Stack {
     pub(crate) is_root: bool,
     pub(crate) top: Frame,
     pub(crate) below: Vec<Frame>,
+    /// Room for values on their way to the parameters of a block.
+    pub(crate) passed: Vec<Val>,
 }
 
 impl Model for Stack {
@@ -41,6 +43,7 @@ impl Stack {
             is_root: true,
             top,
             below: Vec::new(alloc),
+            passed: Vec::new(alloc),
         })
     }
 
@@ -55,6 +58,7 @@ impl Stack {
                 saved: Saved::Copied,
             },
             below: Vec::new(alloc),
+            passed: Vec::new(alloc),
         }
     }
 
@@ -68,6 +72,7 @@ impl Stack {
             is_root: self.is_root,
             top,
             below,
+            passed: Vec::new(alloc),
         })
     }
 

@@ -9,6 +9,17 @@ pub struct CountStep {
     pub n: u64,
 }
 
+/// What kind of step an instruction is.
+#[derive(Clone, Copy, PartialEq, Eq)]
+pub enum Ahead {
+    /// It counts references.
+    Counts(CountStep),
+    /// It is no step of the task alone.
+    Shared,
+    /// It is any other step of the task alone, or none at all.
+    Alone,
+}
+
 /// The answer of a local step.
 #[derive(Clone, Copy, PartialEq, Eq)]
 pub enum LocalStep {
