@@ -25,7 +25,7 @@ ascii-empty = record { ascii = refl }
 pub ascii-blank : Ascii doc.Blank
 ascii-blank = record { ascii = refl }
 
-ascii-comma : Ascii comma
+pub ascii-comma : Ascii comma
 ascii-comma = record { ascii = refl }
 
 pub ascii-colon : Ascii colon
@@ -34,10 +34,10 @@ ascii-colon = record { ascii = refl }
 pub ascii-equals : Ascii equals
 ascii-equals = record { ascii = refl }
 
-ascii-arrow : Ascii arrow
+pub ascii-arrow : Ascii arrow
 ascii-arrow = record { ascii = refl }
 
-ascii-to : Ascii (keyword (codes "to"))
+pub ascii-to : Ascii (keyword (codes "to"))
 ascii-to = record { ascii = refl }
 
 ascii-step : Ascii (keyword (codes "step"))
@@ -46,7 +46,7 @@ ascii-step = record { ascii = refl }
 pub ascii-parens : {d : Doc} → Ascii d → Ascii (parens d)
 ascii-parens within = seq (record { ascii = refl }) (seq within (record { ascii = refl }))
 
-ascii-brackets : {d : Doc} → Ascii d → Ascii (brackets d)
+pub ascii-brackets : {d : Doc} → Ascii d → Ascii (brackets d)
 ascii-brackets within = seq (record { ascii = refl }) (seq within (record { ascii = refl }))
 
 module _ {A : Type 0} (show : A → Doc) (each : (x : A) → Ascii (show x)) where
@@ -58,14 +58,14 @@ module _ {A : Type 0} (show : A → Doc) (each : (x : A) → Ascii (show x)) whe
   ascii-commas [] = ascii-empty
   ascii-commas (x ∷ xs) = seq (each x) (ascii-more xs)
 
-  ascii-shown : (x : Option A) → Ascii (shown show x)
+  pub ascii-shown : (x : Option A) → Ascii (shown show x)
   ascii-shown None = ascii-empty
   ascii-shown (Some x) = each x
 
 pub ascii-values : (vs : List ValueNo) → Ascii (values vs)
 ascii-values vs = ascii-commas value ascii-value vs
 
-ascii-types : (ts : List Ty) → Ascii (types ts)
+pub ascii-types : (ts : List Ty) → Ascii (types ts)
 ascii-types ts = ascii-commas type_doc ascii-type ts
 
 ascii-value_at : (vs : List ValueNo) (i : ℕ) → Ascii (value_at vs i)
@@ -83,7 +83,7 @@ ascii-typed ts = seq ascii-colon (ascii-type_at ts)
 ascii-listed : (ts : List Ty) → Ascii (listed ts)
 ascii-listed ts = seq ascii-colon (ascii-parens (ascii-types ts))
 
-ascii-result_types : (ts : List Ty) → Ascii (result_types ts)
+pub ascii-result_types : (ts : List Ty) → Ascii (result_types ts)
 ascii-result_types [] = ascii-parens (ascii-types [])
 ascii-result_types (t ∷ []) = ascii-type t
 ascii-result_types (t ∷ u ∷ ts) = ascii-parens (ascii-types (t ∷ u ∷ ts))

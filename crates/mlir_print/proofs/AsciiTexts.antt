@@ -42,10 +42,10 @@ ascii-results_doc [] = ascii-empty
 ascii-results_doc (v ∷ vs) = seq (ascii-values (v ∷ vs)) ascii-equals
 
 -- an indentation is ASCII
-abbrev IsIndent : List ℕ → Type 0
+abbrev pub IsIndent : List ℕ → Type 0
 IsIndent indent = all_ascii indent ≡ true
 
-ascii-line : (indent : List ℕ) → IsIndent indent → Ascii (doc.Line indent)
+pub ascii-line : (indent : List ℕ) → IsIndent indent → Ascii (doc.Line indent)
 ascii-line indent is = record { ascii = is }
 
 ascii-deeper : (indent : List ℕ) → IsIndent indent → IsIndent (deeper indent)
@@ -76,7 +76,7 @@ along (e ∷ os) indent last is =
     seq (ascii-line indent is) (seq (e.1 indent last is) (along os indent (printed_op e.0 indent last).last is))
 
 module _ (each : ListsEachKind) where
-  ascii-name : (k : OpKind) → Ascii (word (name_of k))
+  pub ascii-name : (k : OpKind) → Ascii (word (name_of k))
   ascii-name k = record { ascii = each (λ j. all_ascii (name_of j)) refl k }
 
   ascii-opening : (k : OpKind) (i : ℕ) → Ascii (opening k i)

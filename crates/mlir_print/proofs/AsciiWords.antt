@@ -71,7 +71,7 @@ ascii-onto (suc k) n bs are =
     let more : all_ascii (digit_glyph false (n % 10) ∷ bs) ≡ true = rw (glyph false (n % 10) within) are in
     chosen (n / 10 == 0) _ _ more (ascii-onto k (n / 10) (digit_glyph false (n % 10) ∷ bs) more)
 
-ascii-decimal : (n : ℕ) → all_ascii (decimal n) ≡ true
+pub ascii-decimal : (n : ℕ) → all_ascii (decimal n) ≡ true
 unfolding digits
 ascii-decimal n = ascii-onto 64 n [] refl
 

@@ -23,7 +23,7 @@ use Rattle.mlir_print.proofs.Words.{fits_value, fits_attr, fits_type}
 pub fits_values : (vs : List ValueNo) → Fits (values vs)
 fits_values vs = fits_commas value fits_value vs
 
-fits_types : (ts : List Ty) → Fits (types ts)
+pub fits_types : (ts : List Ty) → Fits (types ts)
 fits_types ts = fits_commas type_doc fits_type ts
 
 fits_value_at : (vs : List ValueNo) (i : ℕ) → Fits (value_at vs i)
@@ -41,7 +41,7 @@ good_typed ts = colon_first (fits_type_at ts)
 good_listed : (ts : List Ty) → Good (listed ts)
 good_listed ts = colon_first (fits_parens (fits_types ts))
 
-fits_result_types : (ts : List Ty) → Fits (result_types ts)
+pub fits_result_types : (ts : List Ty) → Fits (result_types ts)
 fits_result_types [] = fits_parens (fits_types [])
 fits_result_types (t ∷ []) = fits_type t
 fits_result_types (t ∷ u ∷ ts) = fits_parens (fits_types (t ∷ u ∷ ts))

@@ -34,12 +34,15 @@ words (d <> e) front behind =
     ∙ ap (λ ws. ws ++ map (word_at (front ++ ((bytes_of d ++ bytes_of e) ++ behind))) (tokens_of e (length front + length (bytes_of d)))) first
     ∙ ap (λ ws. words_of d ++ ws) second
 
-pub takes : (m : Module) → map (word_at (printed m)) (spelled m) ≡ words_of (module_doc m) ++ (End, []) ∷ []
-takes m =
-    let n : ℕ = length (printed m) in
+pub takes_doc : (d : Doc) → map (word_at (bytes_of d)) (tokens_of d 0 ++ token_at End (length (bytes_of d)) (length (bytes_of d)) ∷ []) ≡ words_of d ++ (End, []) ∷ []
+takes_doc d =
+    let n : ℕ = length (bytes_of d) in
     let none : n - n ≡ 0 = omega arith in
-    let tokens : map (word_at (printed m)) (tokens_of (module_doc m) 0) ≡ words_of (module_doc m) =
-    subst (λ text. map (word_at text) (tokens_of (module_doc m) 0) ≡ words_of (module_doc m)) (append-nil (printed m)) (words (module_doc m) [] []) in
-    map-append (word_at (printed m)) (tokens_of (module_doc m) 0) (token_at End n n ∷ [])
-    ∙ ap (λ ws. ws ++ map (word_at (printed m)) (token_at End n n ∷ [])) tokens
-    ∙ ap (λ k. words_of (module_doc m) ++ (End, take k (drop n (printed m))) ∷ []) none
+    let tokens : map (word_at (bytes_of d)) (tokens_of d 0) ≡ words_of d =
+    subst (λ text. map (word_at text) (tokens_of d 0) ≡ words_of d) (append-nil (bytes_of d)) (words d [] []) in
+    map-append (word_at (bytes_of d)) (tokens_of d 0) (token_at End n n ∷ [])
+    ∙ ap (λ ws. ws ++ map (word_at (bytes_of d)) (token_at End n n ∷ [])) tokens
+    ∙ ap (λ k. words_of d ++ (End, take k (drop n (bytes_of d))) ∷ []) none
+
+pub takes : (m : Module) → map (word_at (printed m)) (spelled m) ≡ words_of (module_doc m) ++ (End, []) ∷ []
+takes m = takes_doc (module_doc m)

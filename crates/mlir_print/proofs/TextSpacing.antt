@@ -52,7 +52,7 @@ free_results : (vs : List ValueNo) → Free (results_doc vs)
 free_results [] = record { stand = λ rest. tt }
 free_results (v ∷ vs) = record { stand = λ rest. ((fits_values (v ∷ vs)).stand (32 ∷ 61 ∷ 32 ∷ rest) blank, free_equals.stand rest) }
 
-abbrev IsIndent : List ℕ → Type 0
+abbrev pub IsIndent : List ℕ → Type 0
 IsIndent indent = all_in Blank indent ≡ true
 
 deeper_is : (indent : List ℕ) → IsIndent indent → IsIndent (deeper indent)
@@ -61,7 +61,7 @@ deeper_is [] is = refl
 deeper_is (b ∷ bs) is = let p = both (is_in Blank b) (all_in Blank bs) is in rw (p.0, deeper_is bs p.1) refl
 
 -- a line, and what stands on it
-good_line : (indent : List ℕ) {d : Doc} → IsIndent indent → Fits d → Good (doc.Line indent <> d)
+pub good_line : (indent : List ℕ) {d : Doc} → IsIndent indent → Fits d → Good (doc.Line indent <> d)
 good_line indent is fd = record { stand = λ rest ends. (is, fd.stand rest ends); opens = λ rest ends. line_end }
 
 free_block : (shows : Bool) (indent : List ℕ) (params : List (ValueNo × Ty)) → IsIndent indent → Free (block_line shows indent params)
@@ -116,7 +116,7 @@ along (e ∷ os) indent last is =
     good_line indent is (behind (e.1 indent last is) (along os indent (printed_op e.0 indent last).last is))
 
 module _ (each : ListsEachKind) where
-  name_is : (k : OpKind) → is_name (name_of k) ≡ true
+  pub name_is : (k : OpKind) → is_name (name_of k) ≡ true
   unfolding is_in
   name_is k = each (λ j. is_name (name_of j)) refl k
 

@@ -57,17 +57,17 @@ module _ (c : ByteClass) (digit : (n : ℕ) → is_in c (digit_glyph false (n % 
       let more : all_in c (digit_glyph false (n % 10) ∷ b ∷ bs) ≡ true = rw (digit n) are in
       chosen (n / 10 == 0) (some_in c) more (some_onto k (n / 10) (digit_glyph false (n % 10)) (b ∷ bs) more)
 
-  some_decimal : (n : ℕ) → some_in c (decimal n) ≡ true
+  pub some_decimal : (n : ℕ) → some_in c (decimal n) ≡ true
   unfolding digits
   some_decimal n =
       let one : all_in c (digit_glyph false (n % 10) ∷ []) ≡ true = rw (digit n) refl in
       chosen (n / 10 == 0) (some_in c) one (some_onto 63 (n / 10) (digit_glyph false (n % 10)) [] one)
 
-digit_is : (n : ℕ) → is_in Digit (digit_glyph false (n % 10)) ≡ true
+pub digit_is : (n : ℕ) → is_in Digit (digit_glyph false (n % 10)) ≡ true
 unfolding is_in
 digit_is n = passes (λ d. is_in Digit (digit_glyph false d)) 10 (n % 10) refl (omega arith)
 
-digit_is_suffix : (n : ℕ) → is_in SuffixPart (digit_glyph false (n % 10)) ≡ true
+pub digit_is_suffix : (n : ℕ) → is_in SuffixPart (digit_glyph false (n % 10)) ≡ true
 unfolding is_in
 digit_is_suffix n = passes (λ d. is_in SuffixPart (digit_glyph false d)) 10 (n % 10) refl (omega arith)
 

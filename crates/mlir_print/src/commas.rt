@@ -12,9 +12,14 @@ use ir_forms::{Ty, ValueNo};
 use std::alloc::AllocError;
 
 /// What stands in a list of a text.
-pub(crate) trait Print {
+pub trait Print {
     ghost doc: { Self → Doc };
 
+    /// Adds it to a text.
+    ///
+    /// # Errors
+    ///
+    /// Where there is no memory.
     fn print(&self, text: &mut Vec<u8>) -> Result<(), AllocError>
         ensures { OnOk result (text.new.items ≡ text.old.items ++ bytes_of (doc self.now)) };
 }
@@ -56,7 +61,11 @@ fn push_more<T: Print>(text: &mut Vec<u8>, items: &[T]) -> Result<(), AllocError
 }
 
 /// Adds the elements of a list, with commas between them.
-pub(crate) fn push_list<T: Print>(text: &mut Vec<u8>, items: &[T]) -> Result<(), AllocError>
+///
+/// # Errors
+///
+/// Where there is no memory.
+pub fn push_list<T: Print>(text: &mut Vec<u8>, items: &[T]) -> Result<(), AllocError>
     ensures { OnOk result (text.new.items ≡ text.old.items ++ bytes_of (commas T.doc items.now)) }
 {
     match items.split_first() {

@@ -74,7 +74,11 @@ fn push_listed(text: &mut Vec<u8>, types: &[Ty]) -> Result<(), AllocError>
 }
 
 /// Adds the types of results: one stands alone, none or several in parentheses.
-fn push_result_types(text: &mut Vec<u8>, types: &[Ty]) -> Result<(), AllocError>
+///
+/// # Errors
+///
+/// Where there is no memory.
+pub fn push_result_types(text: &mut Vec<u8>, types: &[Ty]) -> Result<(), AllocError>
     ensures { OnOk result (text.new.items ≡ text.old.items ++ bytes_of (result_types types.now)) }
 {
     match types {
@@ -84,7 +88,11 @@ fn push_result_types(text: &mut Vec<u8>, types: &[Ty]) -> Result<(), AllocError>
 }
 
 /// Adds the types of results behind an arrow, where there are any.
-pub(crate) fn push_results_if_any(text: &mut Vec<u8>, types: &[Ty]) -> Result<(), AllocError>
+///
+/// # Errors
+///
+/// Where there is no memory.
+pub fn push_results_if_any(text: &mut Vec<u8>, types: &[Ty]) -> Result<(), AllocError>
     ensures { OnOk result (text.new.items ≡ text.old.items ++ bytes_of (results_if_any types.now)) }
 {
     if types.is_empty() {

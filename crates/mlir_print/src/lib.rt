@@ -7,6 +7,7 @@ ghost use Rattle.mlir_print.specs.Printed.{printed};
 mod commas;
 mod forms;
 mod laws;
+pub mod parts;
 mod printer;
 mod text;
 mod tokens;

@@ -9,7 +9,11 @@ use itoa::Buffer;
 use std::alloc::AllocError;
 
 /// Adds a number in decimal.
-pub(crate) fn push_number(text: &mut Vec<u8>, n: u64) -> Result<(), AllocError>
+///
+/// # Errors
+///
+/// Where there is no memory.
+pub fn push_number(text: &mut Vec<u8>, n: u64) -> Result<(), AllocError>
     ensures { OnOk result (text.new.items ≡ text.old.items ++ bytes_of (number n)) }
 {
     let mut buffer = Buffer::new();
@@ -108,7 +112,11 @@ fn is_plain(name: &[u8]) -> bool
 }
 
 /// Adds `@` and a name, in quotes where it needs them.
-pub(crate) fn push_symbol(text: &mut Vec<u8>, name: &[u8]) -> Result<(), AllocError>
+///
+/// # Errors
+///
+/// Where there is no memory.
+pub fn push_symbol(text: &mut Vec<u8>, name: &[u8]) -> Result<(), AllocError>
     ensures { OnOk result (text.new.items ≡ text.old.items ++ bytes_of (symbol name.now)) }
 {
     text.push(b'@')?;
@@ -137,7 +145,11 @@ fn pred_name(pred: Pred) -> &'static str
 }
 
 /// Adds what an operation carries beside its operands.
-pub(crate) fn push_attr(text: &mut Vec<u8>, attr: &Attr) -> Result<(), AllocError>
+///
+/// # Errors
+///
+/// Where there is no memory.
+pub fn push_attr(text: &mut Vec<u8>, attr: &Attr) -> Result<(), AllocError>
     ensures { OnOk result (text.new.items ≡ text.old.items ++ bytes_of (attr_doc attr.now)) }
 {
     match attr {

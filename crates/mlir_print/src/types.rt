@@ -99,7 +99,11 @@ fn push_payload(text: &mut Vec<u8>, ty: &ValTy) -> Result<(), AllocError>
 }
 
 /// Adds a type. A parameter without a type prints as nothing.
-pub(crate) fn push_type(text: &mut Vec<u8>, ty: &Ty) -> Result<(), AllocError>
+///
+/// # Errors
+///
+/// Where there is no memory.
+pub fn push_type(text: &mut Vec<u8>, ty: &Ty) -> Result<(), AllocError>
     ensures { OnOk result (text.new.items ≡ text.old.items ++ bytes_of (type_doc ty.now)) }
 {
     match ty {
