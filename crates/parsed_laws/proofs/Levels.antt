@@ -28,11 +28,11 @@ kinds_of_piece (Piece.Ops ops) = joined (map kinds_at ops)
 kinds_of_piece (Piece.Regions k types i regions) = joined (map kinds_in regions)
 
 op-kinds : (x : Op-F Op Region) → kinds_at (roll-Op x) ≡ x.kind ∷ joined (map kinds_in x.regions)
-unfolding kinds_at, kinds_in
+unfolding kinds_at kinds_in
 op-kinds x = fold-roll-Op (List OpKind) (List OpKind) op_kinds region_kinds x
 
 region-kinds : (y : Region-F Op Region) → kinds_in (roll-Region y) ≡ joined (map kinds_at y.ops)
-unfolding kinds_at, kinds_in
+unfolding kinds_at kinds_in
 region-kinds y = fold-roll-Region (List OpKind) (List OpKind) op_kinds region_kinds y
 
 all-stand : (level : Level) (p : Piece) (a b : Scope) → Shows level p a b → AllStand level (kinds_of_piece p)

@@ -34,6 +34,7 @@ use Rattle.step_core.specs.Shared.{Act, Nothing, Creates, Adds, Looks, Sets, Too
 use Rattle.step_core.specs.Plain.{plain_step, by_local, shared_at, ready_step, object_in, shared_uses, uses_by, shared_changes, changes_by, of_object}
 use Rattle.touched_laws.specs.Touched.{IsNone, StepSeesTouched, ChangesSeeTouched, groups_of, with_groups, with_object, then_changed}
 use Rattle.touched_laws.proofs.Objects as object
+
 none_front : (o : ObjNo) (ps qs : List ObjNo) → IsNone o (ps ++ qs) → IsNone o ps
 none_front o [] qs h = tt
 none_front o (p ∷ ps) qs h = (h.0, none_front o ps qs h.1)
