@@ -136,8 +136,8 @@ module _ (o : ObjNo) (x : Object) (s : Plain) (t : ℕ) where
   cells_same : (stack : Stack) (i : Instr) (vs : List Val) → loads_cell then t stack i vs ≡ after (loads_cell s t stack i vs)
   cells_same stack i vs = buffer_same _ _ (value vs 0) (λ b dims. maybe_same _ _ (cell_there (cells_of s b) dims (numbers (drop 1 vs))) (λ c. refl))
 
-  stored_same : (stack : Stack) (vs : List Val) → stores_cell then t stack vs ≡ after (stores_cell s t stack vs)
-  stored_same stack vs = buffer_same _ _ (value vs 1) (λ b dims. maybe_same _ _ (cell_there (cells_of s b) dims (numbers (drop 2 vs))) (λ c. refl))
+  stored_same : (stack : Stack) (i : Instr) (vs : List Val) → stores_cell then t stack i vs ≡ after (stores_cell s t stack i vs)
+  stored_same stack i vs = buffer_same _ _ (value vs 1) (λ b dims. maybe_same _ _ (cell_there (cells_of s b) dims (numbers (drop 2 vs))) (λ c. refl))
 
   root_same : (below : List Frame) (is_root : Bool) (e : RootEnd) → root_ends then t below is_root e ≡ after (root_ends s t below is_root e)
   root_same [] true e = refl
@@ -157,7 +157,7 @@ module _ (o : ObjNo) (x : Object) (s : Plain) (t : ℕ) where
   row_same made row.Allocate f i vs stack h = where_same (can_allocate (asked_sizes f i vs)) _
   row_same made row.Deallocate f i vs stack h = refl
   row_same made row.LoadCell f i vs stack h = cells_same stack i vs
-  row_same made row.StoreCell f i vs stack h = stored_same stack vs
+  row_same made row.StoreCell f i vs stack h = stored_same stack i vs
   row_same made row.Return f i vs stack h = root_same stack.below stack.is_root _
   row_same made row.Fail f i vs stack h = root_same stack.below stack.is_root _
   row_same made row.Finish f i vs stack h = task_same stack.below stack.is_root
