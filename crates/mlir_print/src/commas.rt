@@ -12,14 +12,9 @@ use ir_forms::{Ty, ValueNo};
 use std::alloc::AllocError;
 
 /// What stands in a list of a text.
-pub trait Print {
+pub(crate) trait Print {
     ghost doc: { Self → Doc };
 
-    /// Adds it to a text.
-    ///
-    /// # Errors
-    ///
-    /// Where there is no memory.
     fn print(&self, text: &mut Vec<u8>) -> Result<(), AllocError>
         ensures { OnOk result (text.new.items ≡ text.old.items ++ bytes_of (doc self.now)) };
 }
@@ -61,11 +56,7 @@ fn push_more<T: Print>(text: &mut Vec<u8>, items: &[T]) -> Result<(), AllocError
 }
 
 /// Adds the elements of a list, with commas between them.
-///
-/// # Errors
-///
-/// Where there is no memory.
-pub fn push_list<T: Print>(text: &mut Vec<u8>, items: &[T]) -> Result<(), AllocError>
+pub(crate) fn push_list<T: Print>(text: &mut Vec<u8>, items: &[T]) -> Result<(), AllocError>
     ensures { OnOk result (text.new.items ≡ text.old.items ++ bytes_of (commas T.doc items.now)) }
 {
     match items.split_first() {
