@@ -42,7 +42,7 @@ fn note_all(lists: &mut Vec<Items<usize>>, from: usize, targets: &[usize]) -> Re
 }
 
 /// By block, from where edges lead to it, from each block as often as edges do.
-pub(crate) fn before(alloc: Global, edges: &[Items<usize>]) -> Result<Vec<Items<usize>>, AllocError>
+pub fn before(alloc: Global, edges: &[Items<usize>]) -> Result<Vec<Items<usize>>, AllocError>
     ensures { IfOk result (λ lists. lists.items ≡ before edges.now) }
 {
     let mut lists = empty_lists(alloc, edges.len())?;
@@ -54,7 +54,7 @@ pub(crate) fn before(alloc: Global, edges: &[Items<usize>]) -> Result<Vec<Items<
 
 /// The list at a place; one that is missing is empty.
 #[tactic(auto, using(crate::proofs::ListLemmas::at_read, crate::proofs::ListLemmas::at_beyond))]
-pub(crate) fn list_at(lists: &[Items<usize>], place: usize) -> &[usize]
+pub fn list_at(lists: &[Items<usize>], place: usize) -> &[usize]
     ensures { result.now ≡ list_at lists.now place }
 {
     if place < lists.len() {

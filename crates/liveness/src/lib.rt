@@ -2,7 +2,7 @@
 //! sets of bits, until nothing changes.
 #![tactic(auto)]
 
-mod before;
+pub mod before;
 mod live_map;
 mod solve;
 mod steps;

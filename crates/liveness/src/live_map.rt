@@ -7,11 +7,11 @@ ghost use Rattle.liveness.specs.Tables.{IsTableOf, AreTables};
 ghost use Rattle.liveness.specs.Visits.{most_of, most_in};
 
 use crate::before::list_at;
-use low_forms::edges::edges;
 use crate::solve::{is_over, solve};
 use crate::steps::Steps;
 use crate::table::Table;
 use crate::walk::live_from;
+use low_forms::edges::edges;
 use low_forms::{LowFunc, LowModule, Reg};
 use std::alloc::{AllocError, Global};
 use std::marker::Model;
