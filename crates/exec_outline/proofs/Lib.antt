@@ -1,4 +1,1 @@
-pub mod PlaceLemmas
-pub mod KeyLemmas
-pub mod NameLemmas
 pub mod Walked

@@ -1,10 +1,5 @@
 -- A module in which each region of `async.execute` is a function of its own: a task.
-use Rattle.std.specs.Prelude.{ℕ, zero, suc, ◌+◌, ◌==◌, max, cond, Bool, true, false, List, [], ◌∷◌, ◌++◌, map, drop, length, replicate, slice_get, Option, Some, None, codes, decimal}
-use Rattle.std.specs.BTreeMap.{is_at}
-use Rattle.std.specs.BTreeSet.{insert_key}
-use Rattle.std.specs.Option.{is_some}
-use Rattle.std.specs.Ordering.{nat_cmp}
-use Rattle.std.specs.Set.{remove_key}
+use Rattle.std.specs.Prelude.{ℕ, ◌+◌, cond, Bool, true, false, List, [], ◌∷◌, ◌++◌, map, drop, length, replicate, slice_get, Option, Some, None, codes}
 use Rattle.op_table.specs.declared.kind.OpKind.{OpKind}
 use Rattle.op_table.specs.declared.kind.OpKind.TheVariants as op
 use Rattle.ir_forms.specs.declared.ops.Attr.TheVariants as attr
@@ -17,91 +12,14 @@ use Rattle.ir_forms.specs.declared.ops.ValueNo.{ValueNo}
 use Rattle.ir_forms.specs.declared.types.Ty.{Ty}
 use Rattle.ir_forms.specs.declared.types.Ty.TheVariants as ty
 use Rattle.ir_forms.specs.declared.types.ValTy.TheVariants as val
-use Rattle.ir_forms.specs.Numbers.{joined}
-use Rattle.ir_verify.specs.Names.{first_named}
+pub use Rattle.made_funcs.specs.Captures.{captures}
+pub use Rattle.made_funcs.specs.Names.{made_name}
+pub use Rattle.made_funcs.specs.Values.{Typed, as_values, first_free, numbered, type_in, typed, typed_in, values_in, values_inside, values_of}
 
--- ---- the values of a function with their types, in the order of the text
+-- ---- the name of the task of this number
 
-abbrev pub Typed : Type 0
-Typed = List (ValueNo × Ty)
-
--- values with these types; one without a type is untyped
-abbrev pub typed : List ValueNo → List Ty → Typed
-typed [] ts = []
-typed (v ∷ vs) [] = (v, ty.Untyped) ∷ typed vs []
-typed (v ∷ vs) (t ∷ ts) = (v, t) ∷ typed vs ts
-
-abbrev pub op_values : Op-F Typed Typed → Typed
-op_values o = typed o.results o.types ++ joined o.regions
-
-abbrev pub region_values : Region-F Typed Typed → Typed
-region_values r = r.params ++ joined r.ops
-
--- what an operation and its regions define
-abbrev pub values_in : Op → Typed
-values_in = fold-Op Typed Typed op_values region_values
-
-abbrev pub values_inside : Region → Typed
-values_inside = fold-Region Typed Typed op_values region_values
-
-abbrev pub values_of : Func → Typed
-values_of f = f.params ++ values_inside f.body
-
--- the type of a value
-abbrev pub type_in : Typed → ℕ → Ty
-type_in [] n = ty.Untyped
-type_in (p ∷ ps) n = cond (p.0.0 == n) p.1 (type_in ps n)
-
--- the first number that is above those of these values
-abbrev pub first_free : Typed → ℕ
-first_free [] = 0
-first_free (p ∷ ps) = max (p.0.0 + 1) (first_free ps)
-
--- ---- what a region uses from outside
-
-abbrev pub numbers : List ValueNo → List ℕ
-numbers vs = map (λ v. v.0) vs
-
-abbrev pub op_uses : Op-F (List ℕ) (List ℕ) → List ℕ
-op_uses o = numbers o.operands ++ joined o.regions
-
-abbrev pub region_uses : Region-F (List ℕ) (List ℕ) → List ℕ
-region_uses r = joined r.ops
-
--- the numbers of what an operation and those in its regions use
-abbrev pub uses_in : Op → List ℕ
-uses_in = fold-Op (List ℕ) (List ℕ) op_uses region_uses
-
-abbrev pub uses_inside : Region → List ℕ
-uses_inside = fold-Region (List ℕ) (List ℕ) op_uses region_uses
-
--- numbers in their order, each once, and those that come to them
-abbrev pub with_all : List ℕ → List ℕ → List ℕ
-with_all ks [] = ks
-with_all ks (n ∷ ns) = with_all (insert_key nat_cmp ks n) ns
-
--- without these
-abbrev pub without_all : List ℕ → List ℕ → List ℕ
-without_all ks [] = ks
-without_all ks (n ∷ ns) = without_all (remove_key (is_at (nat_cmp n)) ks) ns
-
--- what the operations of a region use, without what is defined in it
-abbrev pub captures : Region → List ℕ
-captures r = without_all (with_all [] (uses_inside r)) (map (λ p. p.0.0) (values_inside r))
-
--- ---- the names of tasks
-
-abbrev pub is_taken : List Func → List ℕ → Bool
-is_taken funcs name = is_some (first_named funcs name)
-
--- a name behind which `_` stands as often as it takes to be free; as many functions take no more names than so many
-abbrev pub free_name : List Func → ℕ → List ℕ → List ℕ
-free_name funcs zero name = name
-free_name funcs (suc n) name = cond (is_taken funcs name) (free_name funcs n (name ++ codes "_")) name
-
--- the name of the task of this number
 abbrev pub task_name : List Func → ℕ → List ℕ
-task_name funcs k = free_name funcs (length funcs) (codes "aio.task." ++ decimal k)
+task_name funcs k = made_name funcs (codes "aio.task.") k
 
 -- ---- a task
 
@@ -114,18 +32,6 @@ held (ty.Value (val.Int w)) = ty.Int w
 held (ty.Value val.Index) = ty.Index
 held (ty.Value (val.Memref m)) = ty.Memref m
 held t = t
-
--- values of these types, numbered from here on
-abbrev pub numbered : ℕ → List Ty → Typed
-numbered free [] = []
-numbered free (t ∷ ts) = (record { 0 = free }, t) ∷ numbered (free + 1) ts
-
-abbrev pub as_values : List ℕ → List ValueNo
-as_values ns = map (λ n. record { 0 = n }) ns
-
--- values with the types that they have among these
-abbrev pub typed_in : Typed → List ℕ → Typed
-typed_in values ns = map (λ n. (record { 0 = n }, type_in values n)) ns
 
 -- an await of a token or value
 abbrev pub await : ℕ → ValueNo × Ty → Typed → Op

@@ -1,7 +1,7 @@
 //! What a task awaits first.
 ghost use Rattle.std.specs.Prelude.{◌≡◌, ◌∷◌, [], map, IfOk};
 ghost use Rattle.ir_forms.specs.declared.ops.Op.{roll-Op};
-ghost use Rattle.exec_outline.specs.Shape.{await, awaits_each, awaits_for, numbered, tokens};
+ghost use Rattle.exec_outline.specs.Shape.{await, awaits_each, awaits_for, tokens};
 
 use ir_forms::{Attr, Op, OpKind, Ty, ValueNo, copy_type};
 use lists::Items;
@@ -16,25 +16,6 @@ pub(crate) fn tokens(alloc: Global, count: u32) -> Result<Items<Ty>, AllocError>
         types.push(Ty::Token)?;
     }
     Ok(types)
-}
-
-/// Values of these types, numbered from here on. Numbers past 2^32 are want of memory.
-pub(crate) fn numbered(
-    alloc: Global,
-    free: u64,
-    types: &[Ty],
-) -> Result<Items<(ValueNo, Ty)>, AllocError>
-    ensures { IfOk result (λ values. values ≡ numbered free types.now) }
-{
-    let mut values = Items::new(alloc);
-    let mut next = free;
-    for ty in types {
-        let number = u32::try_from(next).ok().ok_or(AllocError)?;
-        let ty = copy_type(alloc, ty)?;
-        values.push((ValueNo(number), ty))?;
-        next += 1;
-    }
-    Ok(values)
 }
 
 /// An await of a token or value, whose results are these.

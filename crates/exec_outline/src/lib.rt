@@ -2,12 +2,8 @@
 #![tactic(auto)]
 
 mod awaits;
-mod captures;
-mod defined;
-mod names;
 mod pass;
 mod task;
-mod values;
 mod walk;
 
-pub use pass::{Outlined, outline};
+pub use pass::{Outlined, outline, outline_module};

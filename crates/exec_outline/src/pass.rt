@@ -52,3 +52,11 @@ pub fn outline(alloc: Global, split: Verified) -> Result<Outlined, AllocError>
     let functions = outlined(alloc, split.module())?;
     Ok(Outlined { functions })
 }
+
+/// The same of a module that a pass gives, which need not be verified.
+pub fn outline_module(alloc: Global, split: &Module) -> Result<Outlined, AllocError>
+    ensures { IfOk result (λ made. made ≡ outlined split.now) }
+{
+    let functions = outlined(alloc, split)?;
+    Ok(Outlined { functions })
+}

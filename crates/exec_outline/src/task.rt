@@ -3,12 +3,12 @@ ghost use Rattle.std.specs.Prelude.{◌≡◌, ◌++◌, ◌+◌, drop, map, IfO
 ghost use Rattle.ir_forms.specs.declared.ops.Op.{out-Op};
 ghost use Rattle.ir_forms.specs.declared.ops.Region.{out-Region};
 ghost use Rattle.exec_outline.specs.Shape as shape;
-ghost use Rattle.exec_outline.specs.Shape.{as_values, awaits_each, awaits_for, dependencies, dependency_count, value_operands};
+ghost use Rattle.exec_outline.specs.Shape.{awaits_each, awaits_for, dependencies, dependency_count, value_operands};
 
-use crate::awaits::{awaits_each, awaits_for, numbered, tokens};
-use crate::values::Values;
+use crate::awaits::{awaits_each, awaits_for, tokens};
 use ir_forms::{Attr, Func, Op, Region, Ty, ValTy, ValueNo, copy_memref, copy_type, copy_types};
 use lists::Items;
+use made_funcs::{Values, numbered, with_values};
 use std::alloc::{AllocError, Global};
 
 fn dependency_count(groups: &[u32]) -> u32
@@ -125,21 +125,6 @@ pub(crate) fn task(
     })
 }
 
-/// The operands of a launch: those of its operation, and then what the region captures.
-fn launch_operands(
-    alloc: Global,
-    operands: &[ValueNo],
-    captured: &[u32],
-) -> Result<Items<ValueNo>, AllocError>
-    ensures { IfOk result (λ all. all ≡ operands.now ++ as_values captured.now) }
-{
-    let mut all = Items::from_slice(alloc, operands)?;
-    for value in captured {
-        all.push(ValueNo(*value))?;
-    }
-    Ok(all)
-}
-
 /// The launch of a task, in the place of its region.
 pub(crate) fn launch(
     alloc: Global,
@@ -149,7 +134,7 @@ pub(crate) fn launch(
 ) -> Result<Op, AllocError>
     ensures { IfOk result (λ launch. launch ≡ shape.launch (out-Op op.now) name.now captured.now) }
 {
-    let operands = launch_operands(alloc, op.operands.as_slice(), captured)?;
+    let operands = with_values(alloc, op.operands.as_slice(), captured)?;
     let groups = Items::from_slice(alloc, op.groups.as_slice())?;
     let written = copy_types(alloc, op.written.as_slice())?;
     let results = Items::from_slice(alloc, op.results.as_slice())?;

@@ -5,12 +5,10 @@ ghost use Rattle.ir_forms.specs.declared.ops.Op.{out-Op};
 ghost use Rattle.exec_outline.specs.Shape as shape;
 ghost use Rattle.exec_outline.specs.Shape.{in_order, is_execute, launched, outlined_func, outlined_op, outlined_region, task_region};
 
-use crate::captures::captures;
-use crate::names::Taken;
 use crate::task::{launch, task};
-use crate::values::Values;
-use ir_forms::{Func, Module, Op, OpKind, Region, copy_op, copy_params, copy_types};
+use ir_forms::{Func, Module, Op, OpKind, Region, copy_op, copy_params};
 use lists::Items;
+use made_funcs::{Taken, Values, captures_of, with_body};
 use std::alloc::{AllocError, Global};
 
 /// The number of the next task behind these.
@@ -32,8 +30,8 @@ fn launched(
 ) -> Result<(Op, Items<Func>), AllocError>
     ensures { IfOk result (λ done. launched taken.now values.now (out-Op op.now) number (body, inner) ≡ done) }
 {
-    let name = taken.task_name(alloc, number)?;
-    let captured = captures(alloc, &body)?;
+    let name = taken.made_name(alloc, b"aio.task.", number)?;
+    let captured = captures_of(alloc, &body)?;
     let launch = launch(alloc, op, &name, &captured)?;
     let task = task(alloc, values, op, &name, &captured, body)?;
     let mut tasks = Items::new(alloc);
@@ -144,21 +142,6 @@ fn outlined_region(
     let params = copy_params(alloc, region.params.as_slice())?;
     let (ops, tasks) = outlined_ops(alloc, taken, values, region.ops.as_slice(), first)?;
     Ok((Region { params, ops }, tasks))
-}
-
-fn with_body(alloc: Global, func: &Func, body: Region) -> Result<Func, AllocError>
-    ensures { IfOk result (λ made. made ≡ record func.now { body = body }) }
-{
-    let name = Items::from_slice(alloc, func.name.as_slice())?;
-    let params = copy_params(alloc, func.params.as_slice())?;
-    let results = copy_types(alloc, func.results.as_slice())?;
-    Ok(Func {
-        name,
-        params,
-        results,
-        body,
-        at: func.at,
-    })
 }
 
 /// The function with launches in the places of its tasks, and the functions of these.

@@ -1,6 +1,0 @@
-use Rattle.std.proofs.Common.{◌≡◌, ◌++◌, drop}
-use Rattle.exec_outline.specs.Shape.{typed_in}
-use Rattle.exec_outline.proofs.values.Values.typed.Given as goal
-
-abbrev pub invariant-loop-value : goal.invariant-loop-value
-invariant-loop-value l = l.typed ++ typed_in l.self (drop l.value-index l.values) ≡ typed_in l.self l.values

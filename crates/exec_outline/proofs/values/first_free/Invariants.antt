@@ -1,6 +1,0 @@
-use Rattle.std.proofs.Common.{◌≡◌, drop, max}
-use Rattle.exec_outline.specs.Shape.{first_free}
-use Rattle.exec_outline.proofs.values.first_free.Given as goal
-
-abbrev pub invariant-loop-value : goal.invariant-loop-value
-invariant-loop-value l = max l.free (first_free (drop l.value-index l.values)) ≡ first_free l.values

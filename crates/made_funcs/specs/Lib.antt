@@ -1,0 +1,4 @@
+pub mod Values
+pub mod Captures
+pub mod Names
+pub mod Places
