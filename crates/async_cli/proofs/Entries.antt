@@ -1,17 +1,30 @@
 -- The entry's number is that of a function of the module.
-use Rattle.std.proofs.Common.{◌≡◌, ℕ, zero, suc, ◌+◌, List, [], ◌∷◌, Bool, true, false, cond, Result, Ok, Err, slice_get, refl, arith, subst, ap, sym, ◌∙◌, Some, None}
+use Rattle.std.proofs.Common.{◌≡◌, ◌<◌, ℕ, zero, suc, ◌+◌, List, [], ◌∷◌, length, map, Bool, true, false, cond, Result, Ok, Err, MatchResult, slice_get, refl, arith, subst, ap, sym, ◌∙◌, inr, Some, None}
+use Rattle.std.proofs.lemmas.Option.{none-some}
 use Rattle.std.specs.Str.{bytes_eq}
 use Rattle.ir_forms.specs.declared.ops.Func.{Func}
 use Rattle.ir_forms.specs.declared.runs.FuncNo.{FuncNo}
 use Rattle.ir_verify.specs.declared.entry.EntryFault.{EntryFault}
 use Rattle.ir_verify.specs.declared.entry.EntryFault.TheVariants.{EntryType}
 use Rattle.ir_verify.specs.Entry.{entry_from, is_refused_entry}
+use Rattle.ir_verify.specs.Verdict.{IsSound}
 use Rattle.ir_forms.specs.declared.ops.Module.{Module}
-use Rattle.arguments.specs.Fits.{Fitted, Wrong, fitted_args}
+use Rattle.arguments.specs.Fits.{Fits, fitted_args}
+use Rattle.ir_forms.specs.declared.args.ArgValue.{ArgValue}
+use Rattle.ir_forms.specs.declared.ops.ValueNo.{ValueNo}
+use Rattle.ir_forms.specs.declared.types.Ty.{Ty}
+use Rattle.source_meaning.specs.Parts.{func_params}
+use Rattle.low_forms.specs.declared.code.LowFunc.{LowFunc}
+use Rattle.low_forms.specs.declared.code.LowModule.{LowModule}
+use Rattle.pass_line.specs.Line.{compiled}
+use Rattle.line_laws.specs.Laws.{FunctionsStand}
+use Rattle.async_cli.specs.declared.calls.EntryCall.{EntryCall}
+use Rattle.async_cli.specs.declared.calls.Loaded.{Loaded}
 use Rattle.async_cli.specs.declared.stops.Stop.{Stop}
 use Rattle.async_cli.specs.declared.stops.Stop.TheVariants as stop
 use Rattle.async_cli.specs.Words.{Asked}
-use Rattle.async_cli.specs.Answers.{entry_of, types_of, Names, FindStops, FitStops, EntryStops}
+use Rattle.async_cli.specs.Answers.{IsAccepted, entry_of, types_at, Names, FindStops, FitStops, EntryStops}
+use Rattle.async_cli.specs.Calls.{Call, IsAsked, IsCall, CallStops, TextStops, Code, held, IsLoaded, Stands, IsMade, MakeStops}
 
 -- a function at so many places behind the place k
 abbrev pub IsThere : ℕ → List Func → ℕ → Type 0
@@ -43,56 +56,145 @@ entry_is_there fs name number e =
     let same : found.0 ≡ number.0 = omega (arith, found.1.0) in
     (found.1.1.0, subst (λ k. slice_get fs k ≡ Some found.1.1.0) same found.1.1.1)
 
--- ---- what a look-up of the entry tells
+below : (fs : List Func) (k : ℕ) (f : Func) → slice_get fs k ≡ Some f → k < length fs
+below [] k f is = absurd (none-some _ is)
+below (g ∷ fs) zero f is = omega arith
+below (g ∷ fs) (suc k) f is = let rest = below fs k f is in omega (arith, rest)
 
-pub no_function : (shown program : Module) (name : List ℕ) (number : FuncNo) → shown ≡ program → Ok number ≡ entry_of program name →
-    None ≡ slice_get shown.funcs number.0 → ⊥
-no_function shown program name number same found none =
-    let there = entry_is_there program.funcs name number (sym found) in
-    let missing : slice_get program.funcs number.0 ≡ None =
-    ap (λ (m : Module). slice_get m.funcs number.0) (sym same) ∙ sym none in
-    let both : None ≡ Some there.0 = sym missing ∙ there.1 in
-    absurd (cc both)
+code_below : (fs : List LowFunc) (k : ℕ) (f : LowFunc) → slice_get fs k ≡ Some f → k < length fs
+code_below [] k f is = absurd (none-some _ is)
+code_below (g ∷ fs) zero f is = omega arith
+code_below (g ∷ fs) (suc k) f is = let rest = code_below fs k f is in omega (arith, rest)
 
-pub is_found : (shown program : Module) (name : List ℕ) (number : FuncNo) (entry : Func) → shown ≡ program →
-    Ok number ≡ entry_of program name → Some entry ≡ slice_get shown.funcs number.0 →
-    (n : FuncNo) × ((entry_of program name ≡ Ok n) × (slice_get program.funcs n.0 ≡ Some entry))
-is_found shown program name number entry same found is =
-    (number, (sym found, ap (λ (m : Module). slice_get m.funcs number.0) (sym same) ∙ sym is))
+-- the entry's function stands in the code of its module
+pub entry_stands : FunctionsStand → (asked : Asked) (c : Call) (l : Loaded) → IsSound c.program.funcs → IsAsked asked c → IsLoaded c l → Stands (held l)
+entry_stands law asked c l sound is loaded =
+    let there = entry_is_there c.program.funcs asked.entry c.function is.names.found in
+    let stands = law c.program c.function.0 there.0 sound there.1 in
+    subst Stands (sym loaded.code) (code_below (compiled c.program).funcs c.function.0 stands.0 stands.1.0)
 
-abbrev Found : Module → Asked → Func → Type 0
-Found program asked entry = (n : FuncNo) × ((entry_of program asked.entry ≡ Ok n) × (slice_get program.funcs n.0 ≡ Some entry))
+-- ---- why there is no call
 
-pub is_named : (program : Module) (asked : Asked) (entry : Func) (fitted : Fitted) → Found program asked entry →
-    fitted_args (types_of entry) asked.args ≡ fitted → Names program asked entry fitted
-is_named program asked entry fitted found fits = record { number = found.0; found = found.1.0; is = found.1.1; fits = fits }
-
--- why an entry isn't found is why it can't be run
+-- why an entry isn't found is why it can't be called
 pub find_stops : (program : Module) (asked : Asked) (s : Stop) → FindStops program asked.entry s → EntryStops program asked s
+find_stops program asked stop.Words why = why
+find_stops program asked stop.Read why = why
+find_stops program asked (stop.TooLong limit) why = why
+find_stops program asked (stop.Module fault) why = why
 find_stops program asked stop.NoEntry why = why
 find_stops program asked (stop.EntryType op) why = why
-find_stops program asked stop.OutOfMemory why = tt
-find_stops program asked stop.Words why = absurd why
-find_stops program asked stop.Read why = absurd why
-find_stops program asked (stop.TooLong limit) why = absurd why
-find_stops program asked (stop.Module fault) why = absurd why
 find_stops program asked (stop.Args at) why = absurd why
-find_stops program asked (stop.NotYet op) why = absurd why
-find_stops program asked (stop.Short parked) why = absurd why
-find_stops program asked (stop.Spent entries) why = absurd why
-find_stops program asked (stop.Write written) why = absurd why
+find_stops program asked (stop.NotYet op) why = why
+find_stops program asked (stop.Short parked) why = why
+find_stops program asked (stop.Objects live) why = why
+find_stops program asked (stop.Tasks live) why = why
+find_stops program asked (stop.Cells used) why = why
+find_stops program asked (stop.Stack depth) why = why
+find_stops program asked (stop.Group size) why = why
+find_stops program asked (stop.Spent entries) why = why
+find_stops program asked (stop.Write written) why = why
+find_stops program asked stop.OutOfMemory why = why
 
 -- and so with arguments that don't fit
-pub fit_stops : (program : Module) (asked : Asked) (entry : Func) (s : Stop) → Found program asked entry → FitStops entry asked.args s → EntryStops program asked s
-fit_stops program asked entry (stop.Args at) found why = (entry, is_named program asked entry (Wrong at) found why)
-fit_stops program asked entry stop.OutOfMemory found why = tt
-fit_stops program asked entry stop.NoEntry found why = absurd why
-fit_stops program asked entry (stop.EntryType op) found why = absurd why
-fit_stops program asked entry stop.Words found why = absurd why
-fit_stops program asked entry stop.Read found why = absurd why
-fit_stops program asked entry (stop.TooLong limit) found why = absurd why
-fit_stops program asked entry (stop.Module fault) found why = absurd why
-fit_stops program asked entry (stop.NotYet op) found why = absurd why
-fit_stops program asked entry (stop.Short parked) found why = absurd why
-fit_stops program asked entry (stop.Spent entries) found why = absurd why
-fit_stops program asked entry (stop.Write written) found why = absurd why
+pub fit_stops : (program : Module) (asked : Asked) (function : FuncNo) (s : Stop) → entry_of program asked.entry ≡ Ok function →
+    FitStops (types_at program function) asked.args s → EntryStops program asked s
+fit_stops program asked function stop.Words found why = absurd why
+fit_stops program asked function stop.Read found why = absurd why
+fit_stops program asked function (stop.TooLong limit) found why = absurd why
+fit_stops program asked function (stop.Module fault) found why = absurd why
+fit_stops program asked function stop.NoEntry found why = absurd why
+fit_stops program asked function (stop.EntryType op) found why = absurd why
+fit_stops program asked function (stop.Args at) found why = (function, record { found = found; fits = why })
+fit_stops program asked function (stop.NotYet op) found why = absurd why
+fit_stops program asked function (stop.Short parked) found why = absurd why
+fit_stops program asked function (stop.Objects live) found why = absurd why
+fit_stops program asked function (stop.Tasks live) found why = absurd why
+fit_stops program asked function (stop.Cells used) found why = absurd why
+fit_stops program asked function (stop.Stack depth) found why = absurd why
+fit_stops program asked function (stop.Group size) found why = absurd why
+fit_stops program asked function (stop.Spent entries) found why = absurd why
+fit_stops program asked function (stop.Write written) found why = absurd why
+fit_stops program asked function stop.OutOfMemory found why = tt
+
+-- the entry with its arguments, which fit these parameters
+pub named_fits : (program : Module) (asked : Asked) (function : FuncNo) (params : List (ValueNo × Ty)) (values : List ArgValue) →
+    entry_of program asked.entry ≡ Ok function → params ≡ func_params (slice_get program.funcs function.0) →
+    fitted_args (map (λ p. p.1) params) asked.args ≡ Fits values → Names program asked function (Fits values)
+named_fits program asked function params values found same fits = record {
+  found = found;
+  fits = subst (λ (ps : List (ValueNo × Ty)). fitted_args (map (λ p. p.1) ps) asked.args ≡ Fits values) same fits;
+}
+
+pub unfit_stops : (program : Module) (asked : Asked) (function : FuncNo) (params : List (ValueNo × Ty)) (s : Stop) →
+    entry_of program asked.entry ≡ Ok function → params ≡ func_params (slice_get program.funcs function.0) →
+    FitStops (map (λ p. p.1) params) asked.args s → EntryStops program asked s
+unfit_stops program asked function params s found same why =
+    fit_stops program asked function s found (subst (λ (ps : List (ValueNo × Ty)). FitStops (map (λ p. p.1) ps) asked.args s) same why)
+
+call_stops : (program : Module) (asked : Asked) (s : Stop) → EntryStops program asked s → CallStops program asked s
+call_stops program asked stop.Words why = why
+call_stops program asked stop.Read why = why
+call_stops program asked (stop.TooLong limit) why = why
+call_stops program asked (stop.Module fault) why = why
+call_stops program asked stop.NoEntry why = why
+call_stops program asked (stop.EntryType op) why = why
+call_stops program asked (stop.Args at) why = why
+call_stops program asked (stop.NotYet op) why = absurd why
+call_stops program asked (stop.Short parked) why = why
+call_stops program asked (stop.Objects live) why = why
+call_stops program asked (stop.Tasks live) why = why
+call_stops program asked (stop.Cells used) why = why
+call_stops program asked (stop.Stack depth) why = why
+call_stops program asked (stop.Group size) why = why
+call_stops program asked (stop.Spent entries) why = why
+call_stops program asked (stop.Write written) why = why
+call_stops program asked stop.OutOfMemory why = why
+
+make_stops : (program : Module) (asked : Asked) (call : EntryCall) (s : Stop) → Names program asked call.function (Fits call.values) →
+    MakeStops program s → CallStops program asked s
+make_stops program asked call stop.Words names why = absurd why
+make_stops program asked call stop.Read names why = absurd why
+make_stops program asked call (stop.TooLong limit) names why = absurd why
+make_stops program asked call (stop.Module fault) names why = absurd why
+make_stops program asked call stop.NoEntry names why = absurd why
+make_stops program asked call (stop.EntryType op) names why = absurd why
+make_stops program asked call (stop.Args at) names why = absurd why
+make_stops program asked call (stop.NotYet op) names why = record { function = call.function; values = call.values; names = names; first = why }
+make_stops program asked call (stop.Short parked) names why = absurd why
+make_stops program asked call (stop.Objects live) names why = absurd why
+make_stops program asked call (stop.Tasks live) names why = absurd why
+make_stops program asked call (stop.Cells used) names why = absurd why
+make_stops program asked call (stop.Stack depth) names why = absurd why
+make_stops program asked call (stop.Group size) names why = absurd why
+make_stops program asked call (stop.Spent entries) names why = absurd why
+make_stops program asked call (stop.Write written) names why = absurd why
+make_stops program asked call stop.OutOfMemory names why = tt
+
+abbrev made_code : LowModule → EntryCall → Code
+made_code low call = record { low = low; function = call.function; values = call.values }
+
+-- what the entry and its arguments, and then what is made of the module, make of the whole
+pub finds : (program : Module) (asked : Asked) (s : Stop) → EntryStops program asked s → CallStops program asked s
+finds program asked s why = call_stops program asked s why
+
+pub loads : (program : Module) (asked : Asked) (call : EntryCall) (result : Result Loaded Stop) →
+    Names program asked call.function (Fits call.values) → MatchResult result (λ l. IsMade program call l) (λ s. MakeStops program s) →
+    MatchResult result (λ l. (c : Call) × ((c.program ≡ program) × (IsAsked asked c × IsLoaded c l))) (λ s. CallStops program asked s)
+loads program asked call (Ok l) names made =
+    let c : Call = record { program = program; function = call.function; values = call.values } in
+    let entry : held l ≡ record { low = l.low; function = call.function; values = call.values } =
+    ap (λ (e : EntryCall). made_code l.low e) made.call in
+    (c, (refl, (record { names = names; whole = made.whole }, record {
+      code = entry ∙ ap (λ low. made_code low call) made.low;
+      notes = made.notes;
+    })))
+loads program asked call (Err s) names made = make_stops program asked call s names made
+
+-- what a module's call makes of its text
+pub reads : FunctionsStand → (text : List ℕ) (asked : Asked) (program : Module) (result : Result Loaded Stop) → IsAccepted text program →
+    MatchResult result (λ l. (c : Call) × ((c.program ≡ program) × (IsAsked asked c × IsLoaded c l))) (λ s. CallStops program asked s) →
+    MatchResult result (λ l. (c : Call) × (IsCall text asked c × (IsLoaded c l × Stands (held l)))) (λ s. TextStops text asked s)
+reads law text asked program (Ok l) accepted (c, (same, (is, loaded))) =
+    let here : IsAccepted text c.program = subst (IsAccepted text) (sym same) accepted in
+    (c, ((here, is), (loaded, entry_stands law asked c l here.1 is loaded)))
+reads law text asked program (Err s) accepted why = inr (program, (accepted, why))

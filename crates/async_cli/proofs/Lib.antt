@@ -1,10 +1,9 @@
 pub mod Alike
-pub mod Driving
 pub mod Entries
+pub mod Leading
 pub mod Modules
 pub mod OneRace
 pub mod OneRun
 pub mod Places
-pub mod Stuck
 pub mod Telling
 pub mod ToolAlike

@@ -1,8 +1,10 @@
 -- A text gives one module that breaks no rule, or one cause why it gives none; and so with the entry of a name.
-use Rattle.std.proofs.Common.{◌≡◌, ◌<◌, ℕ, List, Bool, true, false, if◌then◌else◌, ◌==◌, Option, Some, None, Result, Ok, Err, slice_get, refl, sym, ap, subst, ◌∙◌, inl, inr, arith}
+use Rattle.std.proofs.Common.{◌≡◌, ◌<◌, ℕ, List, Bool, true, false, if◌then◌else◌, ◌==◌, Option, Some, None, Result, Ok, Err, refl, sym, ap, subst, ◌∙◌, inl, inr, arith}
 use Rattle.std.proofs.lemmas.Bool.{cases_order}
 use Rattle.arguments.specs.Fits.{Fitted, Fits, Wrong, fitted_args}
 use Rattle.ir_forms.specs.declared.args.Arg.{Arg}
+use Rattle.ir_forms.specs.declared.args.ArgValue.{ArgValue}
+use Rattle.pass_line.specs.Parallel.{first_parallel}
 use Rattle.ir_forms.specs.declared.ops.Func.{Func}
 use Rattle.ir_forms.specs.declared.ops.Module.{Module}
 use Rattle.ir_forms.specs.declared.runs.FuncNo.{FuncNo}
@@ -23,9 +25,9 @@ use Rattle.async_cli.specs.declared.stops.Stop.{Stop}
 use Rattle.async_cli.specs.declared.stops.Stop.TheVariants as stop
 use Rattle.async_cli.specs.declared.stops.ModuleFault.{ModuleFault}
 use Rattle.async_cli.specs.declared.stops.ModuleFault.TheVariants.{Text, Verify}
-use Rattle.async_cli.specs.Answers.{ReadsModule, IsAccepted, ModuleStops, entry_of, types_of, Names, IsEntry, HasEntry, EntryStops, TextStops}
+use Rattle.async_cli.specs.Answers.{ReadsModule, IsAccepted, ModuleStops, entry_of, types_at, Names, EntryStops}
+use Rattle.async_cli.specs.Calls.{Call, IsAsked, IsCall, CallStops, TextStops}
 use Rattle.async_cli.specs.Laws.{is_decided}
-use Rattle.async_cli.specs.NotYet.{first_not_yet}
 use Rattle.async_cli.specs.Words.{Asked}
 
 -- ---- the module that is read
@@ -135,6 +137,11 @@ module_why bytes (stop.EntryType op) decided why = absurd why
 module_why bytes (stop.Args at) decided why = absurd why
 module_why bytes (stop.NotYet op) decided why = absurd why
 module_why bytes (stop.Short parked) decided why = absurd why
+module_why bytes (stop.Objects live) decided why = absurd why
+module_why bytes (stop.Tasks live) decided why = absurd why
+module_why bytes (stop.Cells used) decided why = absurd why
+module_why bytes (stop.Stack depth) decided why = absurd why
+module_why bytes (stop.Group size) decided why = absurd why
 module_why bytes (stop.Spent entries) decided why = absurd why
 module_why bytes (stop.Write written) decided why = absurd why
 
@@ -176,79 +183,126 @@ one_accepted law bytes p q a b = one_read law bytes p q a.0 b.0
 
 -- ---- the entry
 
--- why a module has no entry of a name that can be run
+-- why a module has no entry that can be called
+abbrev fit_stop : Fitted → Option Stop
+fit_stop (Wrong at) = Some (stop.Args at)
+fit_stop (Fits values) = None
+
+abbrev pub entry_stop : Module → List Arg → Result FuncNo EntryFault → Option Stop
+entry_stop p args (Err entry_fault.NoEntry) = Some stop.NoEntry
+entry_stop p args (Err (entry_fault.EntryType op)) = Some (stop.EntryType op)
+entry_stop p args (Ok function) = fit_stop (fitted_args (types_at p function) args)
+
+pub named_stop : (p : Module) (asked : Asked) (function : FuncNo) (fitted : Fitted) → Names p asked function fitted →
+    entry_stop p asked.args (entry_of p asked.entry) ≡ fit_stop fitted
+named_stop p asked function fitted names = ap (entry_stop p asked.args) names.found ∙ ap fit_stop names.fits
+
+pub entry_why : (p : Module) (asked : Asked) (s : Stop) → is_decided s ≡ true → EntryStops p asked s →
+    entry_stop p asked.args (entry_of p asked.entry) ≡ Some s
+entry_why p asked stop.Words decided why = absurd why
+entry_why p asked stop.Read decided why = absurd why
+entry_why p asked (stop.TooLong limit) decided why = absurd why
+entry_why p asked (stop.Module fault) decided why = absurd why
+entry_why p asked stop.NoEntry decided why = ap (entry_stop p asked.args) why
+entry_why p asked (stop.EntryType op) decided why = ap (entry_stop p asked.args) why
+entry_why p asked (stop.Args at) decided why = named_stop p asked why.0 (Wrong at) why.1
+entry_why p asked (stop.NotYet op) decided why = absurd why
+entry_why p asked (stop.Short parked) decided why = absurd why
+entry_why p asked (stop.Objects live) decided why = absurd why
+entry_why p asked (stop.Tasks live) decided why = absurd why
+entry_why p asked (stop.Cells used) decided why = absurd why
+entry_why p asked (stop.Stack depth) decided why = absurd why
+entry_why p asked (stop.Group size) decided why = absurd why
+entry_why p asked (stop.Spent entries) decided why = absurd why
+entry_why p asked (stop.Write written) decided why = absurd why
+entry_why p asked stop.OutOfMemory decided why = absurd (cc decided)
+
+-- one call is asked for
+pub one_names : (p : Module) (asked : Asked) (f g : FuncNo) (v w : List ArgValue) → Names p asked f (Fits v) → Names p asked g (Fits w) →
+    (f ≡ g) × (v ≡ w)
+one_names p asked f g v w a b =
+    let founds : Ok f ≡ Ok g = sym a.found ∙ b.found in
+    let numbers : f ≡ g = cc founds in
+    let fits : fitted_args (types_at p f) asked.args ≡ Fits w =
+    subst (λ k. fitted_args (types_at p k) asked.args ≡ Fits w) (sym numbers) b.fits in
+    let both : Fits v ≡ Fits w = sym a.fits ∙ fits in
+    (numbers, cc both)
+
+-- ---- the call
+
 abbrev not_yet : Option ℕ → Option Stop
 not_yet None = None
 not_yet (Some op) = Some (stop.NotYet op)
 
-abbrev fit_stop : Fitted → Option ℕ → Option Stop
-fit_stop (Wrong at) op = Some (stop.Args at)
-fit_stop (Fits values) op = not_yet op
+-- why a module has no call that a run can begin with
+abbrev call_stop : Option ℕ → Option Stop → Option Stop
+call_stop op (Some s) = Some s
+call_stop op None = not_yet op
 
-abbrev func_stop : List Arg → Option Func → Option ℕ → Option Stop
-func_stop args None op = None
-func_stop args (Some f) op = fit_stop (fitted_args (types_of f) args) op
+abbrev pub stop_of : Module → Asked → Option Stop
+stop_of p asked = call_stop (first_parallel p) (entry_stop p asked.args (entry_of p asked.entry))
 
-abbrev entry_stop : Module → List Arg → Result FuncNo EntryFault → Option Stop
-entry_stop p args (Err entry_fault.NoEntry) = Some stop.NoEntry
-entry_stop p args (Err (entry_fault.EntryType at)) = Some (stop.EntryType at)
-entry_stop p args (Ok number) = func_stop args (slice_get p.funcs number.0) (first_not_yet p)
+entry_first : (p : Module) (asked : Asked) (s : Stop) → is_decided s ≡ true → EntryStops p asked s → stop_of p asked ≡ Some s
+entry_first p asked s decided why = ap (call_stop (first_parallel p)) (entry_why p asked s decided why)
 
--- what the entry and its arguments give
-named_stop : (p : Module) (asked : Asked) (f : Func) (fitted : Fitted) → Names p asked f fitted →
-    entry_stop p asked.args (entry_of p asked.entry) ≡ fit_stop fitted (first_not_yet p)
-named_stop p asked f fitted names =
-    ap (entry_stop p asked.args) names.found ∙ ap (λ o. func_stop asked.args o (first_not_yet p)) names.is
-    ∙ ap (λ o. fit_stop o (first_not_yet p)) names.fits
+call_why : (p : Module) (asked : Asked) (s : Stop) → is_decided s ≡ true → CallStops p asked s → stop_of p asked ≡ Some s
+call_why p asked stop.Words decided why = absurd why
+call_why p asked stop.Read decided why = absurd why
+call_why p asked (stop.TooLong limit) decided why = absurd why
+call_why p asked (stop.Module fault) decided why = absurd why
+call_why p asked stop.NoEntry decided why = entry_first p asked stop.NoEntry decided why
+call_why p asked (stop.EntryType op) decided why = entry_first p asked (stop.EntryType op) decided why
+call_why p asked (stop.Args at) decided why = entry_first p asked (stop.Args at) decided why
+call_why p asked (stop.NotYet op) decided why = ap (call_stop (first_parallel p)) (named_stop p asked why.function (Fits why.values) why.names) ∙ ap not_yet why.first
+call_why p asked (stop.Short parked) decided why = absurd why
+call_why p asked (stop.Objects live) decided why = absurd why
+call_why p asked (stop.Tasks live) decided why = absurd why
+call_why p asked (stop.Cells used) decided why = absurd why
+call_why p asked (stop.Stack depth) decided why = absurd why
+call_why p asked (stop.Group size) decided why = absurd why
+call_why p asked (stop.Spent entries) decided why = absurd why
+call_why p asked (stop.Write written) decided why = absurd why
+call_why p asked stop.OutOfMemory decided why = absurd (cc decided)
 
-entry_why : (p : Module) (asked : Asked) (s : Stop) → is_decided s ≡ true → EntryStops p asked s →
-    entry_stop p asked.args (entry_of p asked.entry) ≡ Some s
-entry_why p name stop.NoEntry decided why = ap (entry_stop p name.args) why
-entry_why p name (stop.EntryType op) decided why = ap (entry_stop p name.args) why
-entry_why p name (stop.Args at) decided why = named_stop p name why.0 (Wrong at) why.1
-entry_why p name (stop.NotYet op) decided why = named_stop p name why.0.0 (Fits why.0.1.0) why.0.1.1 ∙ ap not_yet why.1
-entry_why p name stop.OutOfMemory decided why = absurd (cc decided)
-entry_why p name stop.Words decided why = absurd why
-entry_why p name stop.Read decided why = absurd why
-entry_why p name (stop.TooLong limit) decided why = absurd why
-entry_why p name (stop.Module fault) decided why = absurd why
-entry_why p name (stop.Short parked) decided why = absurd why
-entry_why p name (stop.Spent entries) decided why = absurd why
-entry_why p name (stop.Write written) decided why = absurd why
+call_is : (p : Module) (asked : Asked) (function : FuncNo) (values : List ArgValue) → Names p asked function (Fits values) → first_parallel p ≡ None →
+    stop_of p asked ≡ None
+call_is p asked function values names whole =
+    ap (call_stop (first_parallel p)) (named_stop p asked function (Fits values) names) ∙ ap not_yet whole
 
-entry_runs : (p : Module) (asked : Asked) (f : Func) → IsEntry p asked f → entry_stop p asked.args (entry_of p asked.entry) ≡ None
-entry_runs p name f is = named_stop p name f (Fits is.values) is.names ∙ ap not_yet is.runs
+abbrev call_with : Module → FuncNo → List ArgValue → Call
+call_with p function values = record { program = p; function = function; values = values }
 
-one_func : (p : Module) (name : Asked) (f g : Func) → IsEntry p name f → IsEntry p name g → f ≡ g
-one_func p name f g a b =
-    let numbers : a.names.number ≡ b.names.number = (let both : Ok a.names.number ≡ Ok b.names.number = sym a.names.found ∙ b.names.found in cc both) in
-    let both : Some f ≡ Some g = sym a.names.is ∙ ap (λ (n : FuncNo). slice_get p.funcs n.0) numbers ∙ b.names.is in
-    cc both
+one_call : (asked : Asked) (c d : Call) → d.program ≡ c.program → IsAsked asked c → IsAsked asked d → c ≡ d
+one_call asked c d same a b =
+    let here : Names c.program asked d.function (Fits d.values) =
+    subst (λ p. Names p asked d.function (Fits d.values)) same b.names in
+    let both = one_names c.program asked c.function d.function c.values d.values a.names here in
+    ap (λ p. call_with p c.function c.values) (sym same) ∙ ap (λ f. call_with d.program f c.values) both.0
+    ∙ ap (call_with d.program d.function) both.1
 
--- what a text and a name give
-abbrev pub EntryGives : List ℕ → Asked → Result Func Stop → Type 0
-EntryGives bytes name (Ok f) = HasEntry bytes name f
-EntryGives bytes name (Err s) = (is_decided s ≡ true) × TextStops bytes name s
+-- what a text and what is asked give
+abbrev pub CallGives : List ℕ → Asked → Result Call Stop → Type 0
+CallGives bytes asked (Ok c) = IsCall bytes asked c
+CallGives bytes asked (Err s) = (is_decided s ≡ true) × TextStops bytes asked s
 
-entry_not_stopped : OneAnswer → (bytes : List ℕ) (name : Asked) (f : Func) (s : Stop) → HasEntry bytes name f → is_decided s ≡ true →
-    TextStops bytes name s → ⊥
-entry_not_stopped law bytes name f s a s_is b =
+call_not_stopped : OneAnswer → (bytes : List ℕ) (asked : Asked) (c : Call) (s : Stop) → IsCall bytes asked c → is_decided s ≡ true →
+    TextStops bytes asked s → ⊥
+call_not_stopped law bytes asked c s a s_is b =
     elim b [
-      | inl why ↦ accepted_stays law bytes a.0 s s_is a.1.0 why
+      | inl why ↦ accepted_stays law bytes c.program s s_is a.0 why
       | inr why ↦
-          let same : why.0 ≡ a.0 = one_accepted law bytes why.0 a.0 why.1.0 a.1.0 in
-          let stopped = entry_why a.0 name s s_is (subst (λ m. EntryStops m name s) same why.1.1) in
-          let both : None ≡ Some s = sym (entry_runs a.0 name f a.1.1) ∙ stopped in
+          let same : why.0 ≡ c.program = one_accepted law bytes why.0 c.program why.1.0 a.0 in
+          let stopped = call_why c.program asked s s_is (subst (λ m. CallStops m asked s) same why.1.1) in
+          let both : None ≡ Some s = sym (call_is c.program asked c.function c.values a.1.names a.1.whole) ∙ stopped in
           cc both
     ]
 
-pub entries_alike : OneAnswer → (bytes : List ℕ) (name : Asked) (r q : Result Func Stop) → EntryGives bytes name r → EntryGives bytes name q → r ≡ q
-entries_alike law bytes name (Ok f) (Ok g) a b =
-    let same : b.0 ≡ a.0 = one_accepted law bytes b.0 a.0 b.1.0 a.1.0 in
-    ap Ok (one_func a.0 name f g a.1.1 (subst (λ m. IsEntry m name g) same b.1.1))
-entries_alike law bytes name (Ok f) (Err s) a b = absurd (entry_not_stopped law bytes name f s a b.0 b.1)
-entries_alike law bytes name (Err s) (Ok f) a b = absurd (entry_not_stopped law bytes name f s b a.0 a.1)
-entries_alike law bytes name (Err s) (Err t) a b =
+pub calls_alike : OneAnswer → (bytes : List ℕ) (asked : Asked) (r q : Result Call Stop) → CallGives bytes asked r → CallGives bytes asked q → r ≡ q
+calls_alike law bytes asked (Ok c) (Ok d) a b =
+    let same : d.program ≡ c.program = one_accepted law bytes d.program c.program b.0 a.0 in ap Ok (one_call asked c d same a.1 b.1)
+calls_alike law bytes asked (Ok c) (Err s) a b = absurd (call_not_stopped law bytes asked c s a b.0 b.1)
+calls_alike law bytes asked (Err s) (Ok c) a b = absurd (call_not_stopped law bytes asked c s b a.0 a.1)
+calls_alike law bytes asked (Err s) (Err t) a b =
     elim a.1 [
       | inl why ↦ elim b.1 [
         | inl also ↦ ap Err (stops_alike law bytes s t a.0 b.0 why also)
@@ -258,8 +312,8 @@ entries_alike law bytes name (Err s) (Err t) a b =
         | inl also ↦ absurd (accepted_stays law bytes why.0 t b.0 why.1.0 also)
         | inr also ↦
             let same : also.0 ≡ why.0 = one_accepted law bytes also.0 why.0 also.1.0 why.1.0 in
-            let first = entry_why why.0 name s a.0 why.1.1 in
-            let second = entry_why why.0 name t b.0 (subst (λ m. EntryStops m name t) same also.1.1) in
+            let first = call_why why.0 asked s a.0 why.1.1 in
+            let second = call_why why.0 asked t b.0 (subst (λ m. CallStops m asked t) same also.1.1) in
             let both : Some s ≡ Some t = sym first ∙ second in
             let stops : s ≡ t = cc both in
             ap Err stops

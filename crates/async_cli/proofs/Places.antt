@@ -2,8 +2,8 @@
 use Rattle.std.proofs.Common.{◌≡◌, ◌≤◌, ◌<◌, ℕ, ◌+◌, ◌*◌, ◌^◌, List, [], ◌∷◌, ◌++◌, length, decimal, arith, subst, sym, ap, inl, inr, length-append, Some}
 use Rattle.std.proofs.Math.Nat.{eq-or-lt_of_le}
 use Rattle.std.proofs.lemmas.Fmt.{decimal_nonempty}
-use Rattle.straight_core.specs.declared.ends.Entry.{Entry}
-use Rattle.straight_journal.specs.Lines.{entry_line, journal_lines, AreEntries, IsEntry}
+use Rattle.step_core.specs.declared.ends.Entry.{Entry}
+use Rattle.run_journal.specs.Lines.{entry_line, journal_lines, AreEntries, IsEntry}
 use Rattle.async_cli.specs.Inputs.{input_limit}
 use Rattle.async_cli.specs.Replays.{AreLines}
 

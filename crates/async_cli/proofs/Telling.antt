@@ -1,14 +1,11 @@
 -- How the parts of a call make its answer.
 use Rattle.std.proofs.Common.{◌≡◌, ◌≤◌, ℕ, Bool, true, false, if◌then◌else◌, List, [], ◌∷◌, length, option_and_then, Option, Some, None, Result, Ok, Err, MatchResult, Vec, Global, refl, sym, ap, subst, inr, ◌∙◌}
 use Rattle.aio_base.specs.Whole.{Told}
-use Rattle.ir_forms.specs.declared.ops.Func.{Func}
 use Rattle.ir_forms.specs.declared.ops.Module.{Module}
-use Rattle.straight_core.specs.declared.code.Straight.{Straight}
-use Rattle.straight_core.specs.declared.ends.Entry.{Entry}
-use Rattle.straight_core.specs.Code.{straight_of}
-use Rattle.straight_core.specs.Journal.{replay}
-use Rattle.straight_core.specs.State.{State, start_state, IsFinished}
-use Rattle.straight_core.specs.Laws.{StraightReplaysMean}
+use Rattle.step_core.specs.declared.ends.Entry.{Entry}
+use Rattle.run_report.specs.declared.note_list.Note.{Note}
+use Rattle.run_report.specs.Notes.{notes_of}
+use Rattle.async_cli.specs.declared.calls.Loaded.{Loaded}
 use Rattle.async_cli.specs.declared.stops.Stop.{Stop}
 use Rattle.async_cli.specs.declared.stops.Stop.TheVariants.{Words, OutOfMemory}
 use Rattle.async_cli.specs.declared.tool_stops.ToolStop.{ToolStop}
@@ -18,46 +15,41 @@ use Rattle.async_cli.specs.declared.words.Command.{Command}
 use Rattle.async_cli.specs.declared.words.Command.TheVariants.{Run}
 use Rattle.async_cli.specs.declared.answering.Written.{Written}
 use Rattle.async_cli.specs.declared.serving.End.{End}
-use Rattle.async_cli.specs.Words.{Asked, AsksFor, AsksNot, asked_of, command_of, with_options, are_allowed, entry_in, args_text, args_said, fuel_in, flags_in, entry_asked, or_else}
-use Rattle.async_cli.specs.Stops.{stop_text, tool_status, tool_text}
-use Rattle.async_cli.specs.Texts.{run_text}
-use Rattle.async_cli.specs.Answers.{Given, Gave, text_limit, IsInput, IsAccepted, IsEntry, EntryStops, HasEntry, TextStops, IsWritten}
+use Rattle.async_cli.specs.Words.{Asked, AsksFor, AsksNot, asked_of, asked_in, command_of, with_options, are_allowed, entry_in, entry_asked, or_else}
+use Rattle.async_cli.specs.Stops.{status_after, stop_status, stop_text, tool_status, tool_text}
+use Rattle.async_cli.specs.Answers.{Given, Gave, text_limit, IsInput, IsAccepted, IsWritten}
+use Rattle.async_cli.specs.Calls.{Call, IsCall, IsLoaded, Code, code_of, held, Stands}
 use Rattle.async_cli.specs.Checks.{CheckEnds, CheckCauses, accepted_line}
 use Rattle.async_cli.specs.Inputs.{input_limit, IsSplit}
-use Rattle.async_cli.specs.Replays.{IsGiven, AreLines, EntryListStops, ReplayCauses, ReplayEnds}
-use Rattle.async_cli.specs.Tools.{ToolOwes, ToolAnswers, CommandEnds, CommandCauses, status_after}
-use Rattle.async_cli.specs.Runs.{Enters, LeadsTo, Finishes, RunStops, Causes, Ends, Answers, stop_after}
+use Rattle.async_cli.specs.Replays.{IsGiven, AreLines, EntryListStops, JournalStops, IsReplayed, ReplayCauses, ReplayEnds}
+use Rattle.async_cli.specs.Tools.{ToolOwes, ToolAnswers, CommandEnds, CommandCauses}
+use Rattle.async_cli.specs.Runs.{Enters, Finishes, RunStops, Causes, Ends, Answers, stop_after}
 
--- an empty journal leads to the start
-pub begins : (entry : Func) (journal : List Entry) → journal ≡ [] → (s : State) × LeadsTo entry journal s
-begins entry journal none = (start_state (straight_of entry), ap (λ j. replay j (start_state (straight_of entry))) none)
+-- what is told of the code of a call is told of the call
+ends_of : (c : Call) (l : Loaded) (flags : Flags) (journal : List Entry) (status : ℕ) (text : List ℕ) → IsLoaded c l →
+    Finishes (held l) l.notes flags journal status text → Finishes (code_of c) (notes_of c.program) flags journal status text
+ends_of c l flags journal status text is ends =
+    subst (λ n. Finishes (code_of c) n flags journal status text) is.notes
+    (subst (λ k. Finishes k l.notes flags journal status text) is.code ends)
 
-pub finishes : (entry : Func) (flags : Flags) (journal : List Entry) (text : List ℕ) (s : State) → StraightReplaysMean →
-    LeadsTo entry journal s → IsFinished s → text ≡ run_text flags s journal → Finishes entry flags journal text
-finishes entry flags journal text s law leads finished told = record {
-  state = s;
-  replayed = leads;
-  finished = finished;
-  means = law entry journal s leads finished;
-  told = told;
-}
+enters : (given : Given) (asked : Asked) (text : List ℕ) (c : Call) → AsksFor Run given.words asked → IsInput text_limit given.source text →
+    (shown : List ℕ) → shown ≡ text → IsCall shown asked c → Enters given asked c
+enters given asked text c asks input shown same is =
+    record { asks = asks; text = text; input = input; is = subst (λ t. IsCall t asked c) same is }
 
-enters : (given : Given) (asked : Asked) (text : List ℕ) (entry : Func) → AsksFor Run given.words asked → IsInput text_limit given.source text →
-    (shown : List ℕ) → shown ≡ text → HasEntry shown asked entry → Enters given asked entry
-enters given asked text entry asks input shown same found =
-    record { asks = asks; text = text; input = input; found = subst (λ t. HasEntry t asked entry) same found }
-
--- what the run of a code makes of the whole call
-pub ran : (given : Given) (asked : Asked) (text : List ℕ) (code : Straight) (journal : List Entry) (result : Result (Vec ℕ Global) Stop) →
+-- what the run of a call makes of the whole
+pub ran : (given : Given) (asked : Asked) (text : List ℕ) (l : Loaded) (journal : List Entry) (result : Result End Stop) →
     AsksFor Run given.words asked → IsInput text_limit given.source text → (shown : List ℕ) → shown ≡ text →
-    (entry : Func) × (HasEntry shown asked entry × (code ≡ straight_of entry)) →
-    ((entry : Func) → code ≡ straight_of entry →
-    MatchResult result (λ text. Finishes entry asked.flags journal text.items) (λ stop. RunStops entry journal stop)) →
-    MatchResult result (λ text. Ends given journal text.items) (λ stop. Causes given journal stop)
-ran given asked text code journal (Ok end) asks input shown same found runs =
-    (asked, (found.0, (enters given asked text found.0 asks input shown same found.1.0, runs found.0 found.1.1)))
-ran given asked text code journal (Err stop) asks input shown same found runs =
-    Causes.run stop asked found.0 (enters given asked text found.0 asks input shown same found.1.0) (runs found.0 found.1.1)
+    (c : Call) × (IsCall shown asked c × (IsLoaded c l × Stands (held l))) →
+    MatchResult result (λ end. Finishes (held l) l.notes asked.flags journal end.status end.text.items)
+    (λ stop. RunStops (held l) asked.bounds journal stop) →
+    MatchResult result (λ end. Ends given journal end.status end.text.items) (λ stop. Causes given journal stop)
+ran given asked text l journal (Ok end) asks input shown same found runs =
+    (asked, (found.0, (enters given asked text found.0 asks input shown same found.1.0,
+    ends_of found.0 l asked.flags journal end.status end.text.items found.1.1.0 runs)))
+ran given asked text l journal (Err stop) asks input shown same found runs =
+    Causes.run stop asked found.0 (enters given asked text found.0 asks input shown same found.1.0)
+    (subst (λ k. RunStops k asked.bounds journal stop) found.1.1.0.code runs)
 
 -- words that ask for another command, or for none
 pub asks_other : (words : List (List ℕ)) (other : Asked) → Some other ≡ asked_of words → (other.command ≡ Run → ⊥) → AsksNot Run words
@@ -68,27 +60,32 @@ pub asks_none : (words : List (List ℕ)) → None ≡ asked_of words → AsksNo
 asks_none words none = λ asked asks. let both : None ≡ Some asked = none ∙ asks.0 in absurd (cc both)
 
 -- what is written of it
-pub answered : (given : Given) (gave : Gave) (journal : List Entry) (entry : List ℕ) (told : Result (Vec ℕ Global) Stop) (answer : Option Stop)
-    (written : Written) (after : Option Stop) → entry ≡ entry_asked given.words →
-    MatchResult told (λ text. Ends given journal text.items) (λ stop. Causes given journal stop) →
-    MatchResult told (λ text. IsWritten gave text.items written) (λ stop. IsWritten gave (stop_text entry stop) written) →
-    MatchResult told (λ text. answer ≡ None) (λ stop. answer ≡ Some stop) → after ≡ stop_after answer written →
-    Answers given gave journal after
-answered given gave journal entry (Ok text) answer written after named owed wrote is ends = record {
+pub answered : (given : Given) (gave : Gave) (journal : List Entry) (entry : List ℕ) (told : Result End Stop) (status : ℕ) (answer : Option Stop)
+    (written : Written) (status_after_it : ℕ) (after : Option Stop) → entry ≡ entry_asked given.words →
+    MatchResult told (λ end. Ends given journal end.status end.text.items) (λ stop. Causes given journal stop) →
+    MatchResult told (λ end. IsWritten gave end.text.items written) (λ stop. IsWritten gave (stop_text entry stop) written) →
+    MatchResult told (λ end. status ≡ end.status) (λ stop. status ≡ stop_status stop) →
+    MatchResult told (λ end. answer ≡ None) (λ stop. answer ≡ Some stop) → status_after_it ≡ status_after status written →
+    after ≡ stop_after answer written → Answers given gave journal status_after_it after
+answered given gave journal entry (Ok end) status answer written later after named owed wrote code is codes ends = record {
   answer = None;
-  text = text.items;
+  status_owed = end.status;
+  text = end.text.items;
   written = written;
   owed = owed;
   told = wrote;
   is = ends ∙ ap (λ a. stop_after a written) is;
+  status_is = codes ∙ ap (λ n. status_after n written) code;
 }
-answered given gave journal entry (Err stop) answer written after named owed wrote is ends = record {
+answered given gave journal entry (Err stop) status answer written later after named owed wrote code is codes ends = record {
   answer = Some stop;
+  status_owed = stop_status stop;
   text = stop_text (entry_asked given.words) stop;
   written = written;
-  owed = (owed, refl);
+  owed = (owed, (refl, refl));
   told = subst (λ e. IsWritten gave (stop_text e stop) written) named wrote;
   is = ends ∙ ap (λ a. stop_after a written) is;
+  status_is = codes ∙ ap (λ n. status_after n written) code;
 }
 
 -- ---- `replay`
@@ -98,27 +95,39 @@ pub is_given : (source : Told) (bytes shown text : List ℕ) (journal : Option (
 is_given source bytes shown text journal input same parts =
     record { bytes = bytes; input = input; parts = subst (λ b. IsSplit b text journal) same parts }
 
--- what the replay of the entries makes of the whole call
-pub replayed : (source : Told) (asked : Asked) (text : List ℕ) (journal : Option (List ℕ)) (code : Straight) (entries shown : List Entry)
-    (result : Result (Vec ℕ Global) ToolStop) → IsGiven source text journal → length text ≤ text_limit →
-    (entry : Func) × (HasEntry text asked entry × (code ≡ straight_of entry)) → AreLines journal entries → shown ≡ entries →
-    ((entry : Func) → code ≡ straight_of entry →
-    MatchResult result (λ t. Finishes entry asked.flags shown t.items) (λ stop. EntryListStops entry shown stop)) →
-    MatchResult result (λ t. ReplayEnds source asked t.items) (λ stop. ReplayCauses source asked stop)
-replayed source asked text journal code entries shown (Ok end) given within found lines same ends = record {
+-- what the replay of the entries makes of their lines
+pub journaled : (c : Code) (notes : List Note) (flags : Flags) (journal : Option (List ℕ)) (entries shown : List Entry) (result : Result End ToolStop) →
+    AreLines journal entries → shown ≡ entries →
+    MatchResult result (λ end. IsReplayed c notes flags shown end.status end.text.items) (λ stop. EntryListStops c shown stop) →
+    MatchResult result (λ end. (entries : List Entry) × (AreLines journal entries × IsReplayed c notes flags entries end.status end.text.items))
+    (λ stop. JournalStops c journal stop)
+journaled c notes flags journal entries shown (Ok end) lines same ends =
+    (entries, (lines, subst (λ es. IsReplayed c notes flags es end.status end.text.items) same ends))
+journaled c notes flags journal entries shown (Err stop) lines same ends =
+    inr (entries, (lines, subst (λ es. EntryListStops c es stop) same ends))
+
+-- what the replay of a journal makes of the whole
+pub replayed : (source : Told) (asked : Asked) (text : List ℕ) (journal : Option (List ℕ)) (l : Loaded) (result : Result End ToolStop) →
+    IsGiven source text journal → length text ≤ text_limit → (c : Call) × (IsCall text asked c × (IsLoaded c l × Stands (held l))) →
+    MatchResult result (λ end. (entries : List Entry) × (AreLines journal entries
+    × IsReplayed (held l) l.notes asked.flags entries end.status end.text.items)) (λ stop. JournalStops (held l) journal stop) →
+    MatchResult result (λ end. ReplayEnds source asked end.status end.text.items) (λ stop. ReplayCauses source asked stop)
+replayed source asked text journal l (Ok end) given within found ends = record {
   program = text;
   journal = journal;
-  entry = found.0;
-  entries = entries;
+  c = found.0;
+  entries = ends.0;
   was_given = given;
   within = within;
-  found = found.1.0;
-  lines = lines;
-  finishes = subst (λ es. Finishes found.0 asked.flags es end.items) same (ends found.0 found.1.1);
+  is = found.1.0;
+  lines = ends.1.0;
+  replayed =
+      subst (λ n. IsReplayed (code_of found.0) n asked.flags ends.0 end.status end.text.items) found.1.1.0.notes
+      (subst (λ k. IsReplayed k l.notes asked.flags ends.0 end.status end.text.items) found.1.1.0.code ends.1.1);
 }
-replayed source asked text journal code entries shown (Err stop) given within found lines same ends =
-    ReplayCauses.no_end stop text journal found.0 entries given within found.1.0 lines
-    (subst (λ es. EntryListStops found.0 es stop) same (ends found.0 found.1.1))
+replayed source asked text journal l (Err stop) given within found ends =
+    ReplayCauses.no_run stop text journal found.0 given within found.1.0
+    (subst (λ k. JournalStops k journal stop) found.1.1.0.code ends)
 
 -- ---- `check`
 
@@ -157,7 +166,7 @@ allowed false made asked is = absurd (cc is)
 
 commanded : (c : Option Command) (words : List (List ℕ)) (asked : Asked) → option_and_then (with_options words) c ≡ Some asked → entry_in words ≡ asked.entry
 commanded None words asked is = absurd (cc is)
-commanded (Some c) words asked is = ap (λ (a : Asked). a.entry) (allowed (are_allowed words) (record { command = c; entry = entry_in words; args = args_said (args_text words); fuel = fuel_in words; flags = flags_in words }) asked is)
+commanded (Some c) words asked is = ap (λ (a : Asked). a.entry) (allowed (are_allowed words) (asked_in words c) asked is)
 
 entry_is : (words : List (List ℕ)) (asked : Asked) → asked_of words ≡ Some asked → entry_asked words ≡ asked.entry
 entry_is [] asked is = absurd (cc is)
@@ -200,12 +209,3 @@ tool_answered given gave entry (Err stop) status written after named owed wrote 
   told = subst (λ e. IsWritten gave (tool_text e stop) written) named wrote;
   is = ends ∙ ap (λ n. status_after n written) is;
 }
-
--- ---- the entry
-
--- what an accepted module's entry makes of its text
-pub entered : (text : List ℕ) (name : Asked) (program : Module) (result : Result Straight Stop) → IsAccepted text program →
-    MatchResult result (λ code. (entry : Func) × (IsEntry program name entry × (code ≡ straight_of entry))) (λ stop. EntryStops program name stop) →
-    MatchResult result (λ code. (entry : Func) × (HasEntry text name entry × (code ≡ straight_of entry))) (λ stop. TextStops text name stop)
-entered text name program (Ok code) accepted found = (found.0, ((program, (accepted, found.1.0)), found.1.1))
-entered text name program (Err stop) accepted stops = inr (program, (accepted, stops))

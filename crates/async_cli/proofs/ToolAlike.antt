@@ -2,17 +2,12 @@
 use Rattle.std.proofs.Common.{◌≡◌, ◌≤◌, ◌<◌, ◌⊎◌, ◌+◌, ◌&&◌, ℕ, List, [], length, take, drop, Bool, true, false, nat_le, Option, Some, None, IsSome, MatchOption, Result, Ok, Err, refl, sym, ap, subst, ◌∙◌, inl, inr, arith}
 use Rattle.std.proofs.lemmas.Bool.{cases_order}
 use Rattle.aio_base.specs.Whole.{Told}
-use Rattle.ir_forms.specs.declared.ops.Func.{Func}
 use Rattle.ir_forms.specs.declared.names.TraceEntry.{TraceEntry}
 use Rattle.ir_forms.specs.declared.ops.Module.{Module}
 use Rattle.mlir_text.specs.Texts.{OneAnswer}
-use Rattle.straight_core.specs.declared.ends.Entry.{Entry}
-use Rattle.straight_core.specs.Code.{straight_of}
-use Rattle.straight_core.specs.State.{State, start_state, IsFinished}
-use Rattle.straight_journal.specs.declared.faults.TaskLook.{TaskLook}
-use Rattle.straight_journal.specs.Laws.{OneJournal, OneBadLine, NoJournalWithBadLine, ReplayedOrNamed}
-use Rattle.straight_journal.specs.Lines.{journal_lines, IsFirstBadLine}
-use Rattle.straight_journal.specs.Replay.{first_fault}
+use Rattle.run_journal.specs.declared.faults.TaskLook.{TaskLook}
+use Rattle.run_journal.specs.Laws.{OneJournal, OneBadLine, NoJournalWithBadLine, ReplayedOrNamed}
+use Rattle.run_journal.specs.Lines.{journal_lines, IsFirstBadLine}
 use Rattle.async_cli.specs.declared.stops.Stop.{Stop}
 use Rattle.async_cli.specs.declared.stops.Stop.TheVariants as stop
 use Rattle.async_cli.specs.declared.tool_stops.ToolStop.{ToolStop}
@@ -20,26 +15,31 @@ use Rattle.async_cli.specs.declared.tool_stops.ToolStop.TheVariants.{Shared, Bad
 use Rattle.async_cli.specs.declared.words.Command.{Command}
 use Rattle.async_cli.specs.declared.words.Command.TheVariants.{Check, Run, Source, Replay}
 use Rattle.async_cli.specs.Words.{Asked, asked_of}
-use Rattle.async_cli.specs.Answers.{Given, text_limit, IsAccepted, ModuleStops, entry_of}
 use Rattle.async_cli.specs.Checks.{CheckEnds, CheckCauses, accepted_line}
-use Rattle.async_cli.specs.Held.{IsUnfinished}
 use Rattle.async_cli.specs.Inputs.{input_limit, is_heading, IsSplit}
 use Rattle.async_cli.specs.Laws.{is_decided, IsDecided, ToolOwesOne}
-use Rattle.arguments.specs.Fits.{Fitted, Fits, Wrong, fitted_args}
-use Rattle.ir_forms.specs.declared.args.Arg.{Arg}
 use Rattle.ir_forms.specs.declared.runs.FuncNo.{FuncNo}
-use Rattle.ir_verify.specs.declared.entry.EntryFault.{EntryFault}
-use Rattle.ir_verify.specs.declared.entry.EntryFault.TheVariants as entry_fault
 use Rattle.run_report.specs.Source.{has_ended, source_status, source_text}
 use Rattle.source_meaning.specs.Sequential.{Means}
-use Rattle.async_cli.specs.Sources.{types_at, IsRace, RunFails, IsReported, SourceEnds, SourceCauses}
 use Rattle.async_cli.proofs.OneRace.{one_race}
 use Rattle.async_cli.proofs.OneRun.{one_run}
-use Rattle.async_cli.specs.Replays.{IsGiven, AreLines, LineStops, EntryListStops, ReplayCauses, ReplayEnds}
-use Rattle.async_cli.specs.Runs.{LeadsTo, Finishes}
 use Rattle.async_cli.specs.Stops.{tool_status, tool_text}
 use Rattle.async_cli.specs.Tools.{CommandEnds, CommandCauses, ToolOwes}
-use Rattle.async_cli.proofs.Modules.{EntryGives, entries_alike, stops_alike, accepted_stays, one_accepted}
+use Rattle.arguments.specs.Fits.{Fits}
+use Rattle.run_journal.specs.Replay.{first_fault}
+use Rattle.run_journal.specs.Within.{replay_within}
+use Rattle.run_report.specs.declared.note_list.Note.{Note}
+use Rattle.run_report.specs.Notes.{notes_of}
+use Rattle.serial_run.specs.Outcomes.{IsUnfinished}
+use Rattle.step_core.specs.declared.ends.Entry.{Entry}
+use Rattle.step_core.specs.Core.{Core}
+use Rattle.step_core.specs.Runs.{IsFinished, and_then}
+use Rattle.async_cli.specs.Answers.{Given, text_limit, IsAccepted, ModuleStops, entry_of, EntryStops}
+use Rattle.async_cli.specs.Calls.{Call, Code, code_of}
+use Rattle.async_cli.specs.Replays.{IsGiven, AreLines, LineStops, EntryListStops, JournalStops, IsReplayed, ReplaysTo, replay_limits, first_bad, ReplayCauses, ReplayEnds}
+use Rattle.async_cli.specs.Runs.{start_of}
+use Rattle.async_cli.specs.Sources.{IsRace, IsReported, SourceEnds, SourceCauses}
+use Rattle.async_cli.proofs.Modules.{CallGives, calls_alike, entry_stop, entry_why, named_stop, one_names, stops_alike, accepted_stays, one_accepted}
 use Rattle.async_cli.proofs.Alike.{input_gives, input_stops, one_text, one_asked}
 
 -- a cause that what is given decides
@@ -48,6 +48,10 @@ is_decided_cause (Shared s) = is_decided s
 is_decided_cause (BadLine line) = true
 is_decided_cause (NotARun number named kept) = true
 is_decided_cause (Unfinished entries) = true
+
+-- a status and a text, or a cause
+abbrev Reported : Type 0
+Reported = Result (ℕ × List ℕ) ToolStop
 
 -- ---- `check`
 
@@ -98,25 +102,25 @@ check_stops source bytes _ told decided (CheckCauses.no_module s all input why) 
 -- ---- `replay`
 
 -- what the entries of a journal give
-abbrev EntriesGive : Func → Asked → List Entry → Result (List ℕ) ToolStop → Type 0
-EntriesGive f asked entries (Ok text) = Finishes f asked.flags entries text
-EntriesGive f asked entries (Err cause) = (is_decided_cause cause ≡ true) × EntryListStops f entries cause
+abbrev EntriesGive : Call → Asked → List Entry → Reported → Type 0
+EntriesGive c asked entries (Ok told) = IsReplayed (code_of c) (notes_of c.program) asked.flags entries told.0 told.1
+EntriesGive c asked entries (Err cause) = (is_decided_cause cause ≡ true) × EntryListStops (code_of c) entries cause
 
-abbrev LinesGive : Option (List ℕ) → Func → Asked → Result (List ℕ) ToolStop → Type 0
-LinesGive journal f asked r =
+abbrev LinesGive : Option (List ℕ) → Call → Asked → Reported → Type 0
+LinesGive journal c asked r =
     ((cause : ToolStop) × ((is_decided_cause cause ≡ true) × (LineStops journal cause × (r ≡ Err cause))))
-    ⊎ ((entries : List Entry) × (AreLines journal entries × EntriesGive f asked entries r))
+    ⊎ ((entries : List Entry) × (AreLines journal entries × EntriesGive c asked entries r))
 
-abbrev PartsGive : List ℕ → Option (List ℕ) → Asked → Result (List ℕ) ToolStop → Type 0
+abbrev PartsGive : List ℕ → Option (List ℕ) → Asked → Reported → Type 0
 PartsGive text journal asked r =
-    ((s : Stop) × (EntryGives text asked (Err s) × (r ≡ Err (Shared s))))
-    ⊎ ((f : Func) × (EntryGives text asked (Ok f) × LinesGive journal f asked r))
+    ((s : Stop) × (CallGives text asked (Err s) × (r ≡ Err (Shared s))))
+    ⊎ ((c : Call) × (CallGives text asked (Ok c) × LinesGive journal c asked r))
 
-abbrev SplitGives : List ℕ → Option (List ℕ) → Asked → Result (List ℕ) ToolStop → Type 0
+abbrev SplitGives : List ℕ → Option (List ℕ) → Asked → Reported → Type 0
 SplitGives text journal asked r =
     ((text_limit < length text) × (r ≡ Err (Shared (stop.TooLong text_limit)))) ⊎ ((length text ≤ text_limit) × PartsGive text journal asked r)
 
-abbrev ReplayGives : List ℕ → Asked → Result (List ℕ) ToolStop → Type 0
+abbrev ReplayGives : List ℕ → Asked → Reported → Type 0
 ReplayGives bytes asked r =
     ((input_limit < length bytes) × (r ≡ Err (Shared (stop.TooLong input_limit))))
     ⊎ ((length bytes ≤ input_limit)
@@ -129,74 +133,86 @@ pub record Journals : Type 0 where
   pub no_bad_line : NoJournalWithBadLine
   pub named : ReplayedOrNamed
 
-leads_unnamed : ReplayedOrNamed → (f : Func) (entries : List Entry) (s : State) → LeadsTo f entries s →
-    first_fault 0 entries (start_state (straight_of f)) ≡ None
-leads_unnamed law f entries s leads =
-    let start : State = start_state (straight_of f) in
-    subst (λ (o : Option State). MatchOption o (IsSome (first_fault 0 entries start)) (λ after. first_fault 0 entries start ≡ None)) leads
-    (law 0 entries start)
+leads_unnamed : ReplayedOrNamed → (c : Code) (entries : List Entry) (s : Core) → ReplaysTo c entries s → first_bad c entries ≡ None
+leads_unnamed law c entries s leads = by (start_of c) refl leads
+  where
+    by : (o : Option Core) → start_of c ≡ o → and_then (replay_within replay_limits c.low entries) o ≡ Some s → first_bad c entries ≡ None
+    by None at is = absurd (cc is)
+    by (Some begin) at is =
+        ap (and_then (first_fault replay_limits c.low 0 entries)) at
+        ∙ subst (λ (o : Option Core). MatchOption o (IsSome (first_fault replay_limits c.low 0 entries begin)) (λ after. first_fault replay_limits c.low 0 entries begin ≡ None)) is
+        (law replay_limits c.low 0 entries begin)
 
 -- why entries are no finished run: one is named, or the run isn't finished
-abbrev EntryWhy : Func → List Entry → ToolStop → Type 0
-EntryWhy f entries cause =
-    ((n : ℕ) × ((named : Entry) × ((kept : Option TaskLook) × ((cause ≡ NotARun n named kept) × EntryListStops f entries (NotARun n named kept)))))
-    ⊎ ((cause ≡ Unfinished (length entries)) × ((s : State) × (LeadsTo f entries s × IsUnfinished s)))
+abbrev EntryWhy : Code → List Entry → ToolStop → Type 0
+EntryWhy c entries cause =
+    ((n : ℕ) × ((named : Entry) × ((kept : Option TaskLook) × ((cause ≡ NotARun n named kept) × EntryListStops c entries (NotARun n named kept)))))
+    ⊎ ((cause ≡ Unfinished (length entries)) × ((s : Core) × (ReplaysTo c entries s × IsUnfinished s)))
 
-entry_why : (f : Func) (entries : List Entry) (cause : ToolStop) → is_decided_cause cause ≡ true → EntryListStops f entries cause →
-    EntryWhy f entries cause
-entry_why f entries (NotARun n named kept) decided why = inl (n, (named, (kept, (refl, why))))
-entry_why f entries (Unfinished count) decided why = inr (ap Unfinished why.1.1.1, (why.0, (why.1.0, why.1.1.0)))
-entry_why f entries (BadLine line) decided why = absurd why
-entry_why f entries (Shared stop.OutOfMemory) decided why = absurd (cc decided)
-entry_why f entries (Shared stop.Words) decided why = absurd why
-entry_why f entries (Shared stop.Read) decided why = absurd why
-entry_why f entries (Shared (stop.TooLong limit)) decided why = absurd why
-entry_why f entries (Shared (stop.Module fault)) decided why = absurd why
-entry_why f entries (Shared stop.NoEntry) decided why = absurd why
-entry_why f entries (Shared (stop.EntryType op)) decided why = absurd why
-entry_why f entries (Shared (stop.Args at)) decided why = absurd why
-entry_why f entries (Shared (stop.NotYet op)) decided why = absurd why
-entry_why f entries (Shared (stop.Short parked)) decided why = absurd why
-entry_why f entries (Shared (stop.Spent count)) decided why = absurd why
-entry_why f entries (Shared (stop.Write written)) decided why = absurd why
+list_why : (c : Code) (entries : List Entry) (cause : ToolStop) → is_decided_cause cause ≡ true → EntryListStops c entries cause →
+    EntryWhy c entries cause
+list_why c entries (NotARun n named kept) decided why = inl (n, (named, (kept, (refl, why))))
+list_why c entries (Unfinished count) decided why = inr (ap Unfinished why.1.1.1, (why.0, (why.1.0, why.1.1.0)))
+list_why c entries (BadLine line) decided why = absurd why
+list_why c entries (Shared stop.Words) decided why = absurd why
+list_why c entries (Shared stop.Read) decided why = absurd why
+list_why c entries (Shared (stop.TooLong limit)) decided why = absurd why
+list_why c entries (Shared (stop.Module fault)) decided why = absurd why
+list_why c entries (Shared stop.NoEntry) decided why = absurd why
+list_why c entries (Shared (stop.EntryType op)) decided why = absurd why
+list_why c entries (Shared (stop.Args at)) decided why = absurd why
+list_why c entries (Shared (stop.NotYet op)) decided why = absurd why
+list_why c entries (Shared (stop.Short parked)) decided why = absurd why
+list_why c entries (Shared (stop.Objects live)) decided why = absurd why
+list_why c entries (Shared (stop.Tasks live)) decided why = absurd why
+list_why c entries (Shared (stop.Cells used)) decided why = absurd why
+list_why c entries (Shared (stop.Stack depth)) decided why = absurd why
+list_why c entries (Shared (stop.Group size)) decided why = absurd why
+list_why c entries (Shared (stop.Spent full)) decided why = absurd why
+list_why c entries (Shared (stop.Write written)) decided why = absurd why
+list_why c entries (Shared stop.OutOfMemory) decided why = absurd (cc decided)
 
-one_state : (f : Func) (entries : List Entry) (s t : State) → LeadsTo f entries s → LeadsTo f entries t → s ≡ t
-one_state f entries s t a b = let both : Some s ≡ Some t = sym a ∙ b in cc both
+one_end : (c : Code) (entries : List Entry) (s t : Core) → ReplaysTo c entries s → ReplaysTo c entries t → s ≡ t
+one_end c entries s t a b = let both : Some s ≡ Some t = sym a ∙ b in cc both
 
-ends_stay : Journals → (f : Func) (asked : Asked) (entries : List Entry) (text : List ℕ) (cause : ToolStop) →
-    Finishes f asked.flags entries text → EntryWhy f entries cause → ⊥
-ends_stay laws f asked entries text cause ends why =
+ends_stay : Journals → (c : Code) (notes : List Note) (asked : Asked) (entries : List Entry) (status : ℕ) (text : List ℕ) (cause : ToolStop) →
+    IsReplayed c notes asked.flags entries status text → EntryWhy c entries cause → ⊥
+ends_stay laws c notes asked entries status text cause ends why =
     elim why [
-      | inl x ↦ cc (sym (leads_unnamed laws.named f entries ends.state ends.replayed) ∙ x.1.1.1.1)
+      | inl x ↦ cc (sym (leads_unnamed laws.named c entries ends.finishes.state ends.within) ∙ x.1.1.1.1)
       | inr x ↦
-          let same : ends.state ≡ x.1.0 = one_state f entries _ _ ends.replayed x.1.1.0 in
-          x.1.1.1 (subst IsFinished same ends.finished)
+          let same : ends.finishes.state ≡ x.1.0 = one_end c entries _ _ ends.within x.1.1.0 in
+          x.1.1.1 (subst IsFinished same ends.finishes.finished)
     ]
 
-causes_alike : Journals → (f : Func) (entries : List Entry) (c d : ToolStop) → EntryWhy f entries c → EntryWhy f entries d → c ≡ d
-causes_alike laws f entries c d a b =
+causes_alike : Journals → (c : Code) (entries : List Entry) (x y : ToolStop) → EntryWhy c entries x → EntryWhy c entries y → x ≡ y
+causes_alike laws c entries s t a b =
     elim a [
       | inl x ↦ elim b [
         | inl y ↦
             let both = sym x.1.1.1.1 ∙ y.1.1.1.1 in
-            let first : c ≡ NotARun x.0 x.1.0 x.1.1.0 = x.1.1.1.0 in
-            let second : d ≡ NotARun y.0 y.1.0 y.1.1.0 = y.1.1.1.0 in
+            let first : s ≡ NotARun x.0 x.1.0 x.1.1.0 = x.1.1.1.0 in
+            let second : t ≡ NotARun y.0 y.1.0 y.1.1.0 = y.1.1.1.0 in
             cc
-        | inr y ↦ absurd (cc (sym (leads_unnamed laws.named f entries y.1.0 y.1.1.0) ∙ x.1.1.1.1))
+        | inr y ↦ absurd (cc (sym (leads_unnamed laws.named c entries y.1.0 y.1.1.0) ∙ x.1.1.1.1))
       ]
       | inr x ↦ elim b [
-        | inl y ↦ absurd (cc (sym (leads_unnamed laws.named f entries x.1.0 x.1.1.0) ∙ y.1.1.1.1))
+        | inl y ↦ absurd (cc (sym (leads_unnamed laws.named c entries x.1.0 x.1.1.0) ∙ y.1.1.1.1))
         | inr y ↦ x.0 ∙ sym y.0
       ]
     ]
 
-entries_run_alike : Journals → (f : Func) (asked : Asked) (entries : List Entry) (r q : Result (List ℕ) ToolStop) →
-    EntriesGive f asked entries r → EntriesGive f asked entries q → r ≡ q
-entries_run_alike laws f asked entries (Ok t) (Ok u) a b = ap Ok (one_text f asked entries t u a b)
-entries_run_alike laws f asked entries (Ok t) (Err c) a b = absurd (ends_stay laws f asked entries t c a (entry_why f entries c b.0 b.1))
-entries_run_alike laws f asked entries (Err c) (Ok t) a b = absurd (ends_stay laws f asked entries t c b (entry_why f entries c a.0 a.1))
-entries_run_alike laws f asked entries (Err c) (Err d) a b =
-    ap Err (causes_alike laws f entries c d (entry_why f entries c a.0 a.1) (entry_why f entries d b.0 b.1))
+entries_run_alike : Journals → (c : Call) (asked : Asked) (entries : List Entry) (r q : Reported) →
+    EntriesGive c asked entries r → EntriesGive c asked entries q → r ≡ q
+entries_run_alike laws c asked entries (Ok t) (Ok u) a b =
+    let one = one_text (code_of c) (notes_of c.program) asked.flags entries t.0 u.0 t.1 u.1 a.finishes b.finishes in
+    ap (λ n. Ok (n, t.1)) one.0 ∙ ap (λ l. Ok (u.0, l)) one.1
+entries_run_alike laws c asked entries (Ok t) (Err s) a b =
+    absurd (ends_stay laws (code_of c) (notes_of c.program) asked entries t.0 t.1 s a (list_why (code_of c) entries s b.0 b.1))
+entries_run_alike laws c asked entries (Err s) (Ok t) a b =
+    absurd (ends_stay laws (code_of c) (notes_of c.program) asked entries t.0 t.1 s b (list_why (code_of c) entries s a.0 a.1))
+entries_run_alike laws c asked entries (Err s) (Err t) a b =
+    ap Err (causes_alike laws (code_of c) entries s t (list_why (code_of c) entries s a.0 a.1) (list_why (code_of c) entries t b.0 b.1))
 
 -- the first line that is no entry
 abbrev LineWhy : Option (List ℕ) → ToolStop → Type 0
@@ -216,6 +232,11 @@ line_why None (Shared (stop.EntryType op)) decided why = absurd why
 line_why None (Shared (stop.Args at)) decided why = absurd why
 line_why None (Shared (stop.NotYet op)) decided why = absurd why
 line_why None (Shared (stop.Short parked)) decided why = absurd why
+line_why None (Shared (stop.Objects live)) decided why = absurd why
+line_why None (Shared (stop.Tasks live)) decided why = absurd why
+line_why None (Shared (stop.Cells used)) decided why = absurd why
+line_why None (Shared (stop.Stack depth)) decided why = absurd why
+line_why None (Shared (stop.Group size)) decided why = absurd why
 line_why None (Shared (stop.Spent entries)) decided why = absurd why
 line_why None (Shared (stop.Write written)) decided why = absurd why
 line_why (Some lines) (BadLine line) decided why = (line, (refl, why))
@@ -231,6 +252,11 @@ line_why (Some lines) (Shared (stop.EntryType op)) decided why = absurd why
 line_why (Some lines) (Shared (stop.Args at)) decided why = absurd why
 line_why (Some lines) (Shared (stop.NotYet op)) decided why = absurd why
 line_why (Some lines) (Shared (stop.Short parked)) decided why = absurd why
+line_why (Some lines) (Shared (stop.Objects live)) decided why = absurd why
+line_why (Some lines) (Shared (stop.Tasks live)) decided why = absurd why
+line_why (Some lines) (Shared (stop.Cells used)) decided why = absurd why
+line_why (Some lines) (Shared (stop.Stack depth)) decided why = absurd why
+line_why (Some lines) (Shared (stop.Group size)) decided why = absurd why
 line_why (Some lines) (Shared (stop.Spent entries)) decided why = absurd why
 line_why (Some lines) (Shared (stop.Write written)) decided why = absurd why
 
@@ -248,9 +274,9 @@ one_list : Journals → (journal : Option (List ℕ)) (xs ys : List Entry) → A
 one_list laws journal xs ys a b =
     let both : Some (journal_lines xs) ≡ Some (journal_lines ys) = sym a.0 ∙ b.0 in laws.one_journal xs ys a.1 b.1 (cc both)
 
-lines_alike : Journals → (journal : Option (List ℕ)) (f : Func) (asked : Asked) (r q : Result (List ℕ) ToolStop) →
-    LinesGive journal f asked r → LinesGive journal f asked q → r ≡ q
-lines_alike laws journal f asked r q a b =
+lines_alike : Journals → (journal : Option (List ℕ)) (c : Call) (asked : Asked) (r q : Reported) →
+    LinesGive journal c asked r → LinesGive journal c asked q → r ≡ q
+lines_alike laws journal c asked r q a b =
     elim a [
       | inl x ↦
           let why = line_why journal x.0 x.1.0 x.1.1.0 in
@@ -267,31 +293,31 @@ lines_alike laws journal f asked r q a b =
             let also = line_why journal y.0 y.1.0 y.1.1.0 in absurd (no_line laws journal x.0 also.0 x.1.0 also.1.1)
         | inr y ↦
             let same : y.0 ≡ x.0 = one_list laws journal y.0 x.0 y.1.0 x.1.0 in
-            entries_run_alike laws f asked x.0 r q x.1.1 (subst (λ es. EntriesGive f asked es q) same y.1.1)
+            entries_run_alike laws c asked x.0 r q x.1.1 (subst (λ es. EntriesGive c asked es q) same y.1.1)
       ]
     ]
 
-parts_alike : Journals → OneAnswer → (text : List ℕ) (journal : Option (List ℕ)) (asked : Asked) (r q : Result (List ℕ) ToolStop) →
+parts_alike : Journals → OneAnswer → (text : List ℕ) (journal : Option (List ℕ)) (asked : Asked) (r q : Reported) →
     PartsGive text journal asked r → PartsGive text journal asked q → r ≡ q
 parts_alike laws law text journal asked r q a b =
     elim a [
       | inl x ↦ elim b [
         | inl y ↦
-            let both : Err x.0 ≡ Err y.0 = entries_alike law text asked (Err x.0) (Err y.0) x.1.0 y.1.0 in
+            let both : Err x.0 ≡ Err y.0 = calls_alike law text asked (Err x.0) (Err y.0) x.1.0 y.1.0 in
             let stops : x.0 ≡ y.0 = cc both in
             x.1.1 ∙ ap (λ s. Err (Shared s)) stops ∙ sym y.1.1
-        | inr y ↦ absurd (cc (entries_alike law text asked (Err x.0) (Ok y.0) x.1.0 y.1.0))
+        | inr y ↦ absurd (cc (calls_alike law text asked (Err x.0) (Ok y.0) x.1.0 y.1.0))
       ]
       | inr x ↦ elim b [
-        | inl y ↦ absurd (cc (entries_alike law text asked (Ok x.0) (Err y.0) x.1.0 y.1.0))
+        | inl y ↦ absurd (cc (calls_alike law text asked (Ok x.0) (Err y.0) x.1.0 y.1.0))
         | inr y ↦
-            let both : Ok x.0 ≡ Ok y.0 = entries_alike law text asked (Ok x.0) (Ok y.0) x.1.0 y.1.0 in
+            let both : Ok x.0 ≡ Ok y.0 = calls_alike law text asked (Ok x.0) (Ok y.0) x.1.0 y.1.0 in
             let same : x.0 ≡ y.0 = cc both in
             lines_alike laws journal y.0 asked r q (subst (λ h. LinesGive journal h asked r) same x.1.1) y.1.1
       ]
     ]
 
-splits_alike : Journals → OneAnswer → (text : List ℕ) (journal : Option (List ℕ)) (asked : Asked) (r q : Result (List ℕ) ToolStop) →
+splits_alike : Journals → OneAnswer → (text : List ℕ) (journal : Option (List ℕ)) (asked : Asked) (r q : Reported) →
     SplitGives text journal asked r → SplitGives text journal asked q → r ≡ q
 splits_alike laws law text journal asked r q a b =
     elim a [
@@ -340,7 +366,7 @@ one_split bytes t u (Some j) (Some k) a b =
       ]
     ]
 
-replays_alike : Journals → OneAnswer → (bytes : List ℕ) (asked : Asked) (r q : Result (List ℕ) ToolStop) →
+replays_alike : Journals → OneAnswer → (bytes : List ℕ) (asked : Asked) (r q : Reported) →
     ReplayGives bytes asked r → ReplayGives bytes asked q → r ≡ q
 replays_alike laws law bytes asked r q a b =
     elim a [
@@ -355,17 +381,22 @@ replays_alike laws law bytes asked r q a b =
       ]
     ]
 
-given_parts : (source : Told) (bytes text : List ℕ) (journal : Option (List ℕ)) (asked : Asked) (r : Result (List ℕ) ToolStop) →
+given_parts : (source : Told) (bytes text : List ℕ) (journal : Option (List ℕ)) (asked : Asked) (r : Reported) →
     source.left ≡ Some bytes → IsGiven source text journal → SplitGives text journal asked r → ReplayGives bytes asked r
 given_parts source bytes text journal asked r told given gives =
     let read = input_gives input_limit source bytes given.bytes told given.input in
     inr (read.1, (text, (journal, (subst (λ b. IsSplit b text journal) read.0 given.parts, gives))))
 
-replay_ends : (source : Told) (bytes : List ℕ) (asked : Asked) (text : List ℕ) → source.left ≡ Some bytes → ReplayEnds source asked text →
-    ReplayGives bytes asked (Ok text)
-replay_ends source bytes asked text told ends =
-    given_parts source bytes ends.program ends.journal asked (Ok text) told ends.was_given
-    (inr (ends.within, inr (ends.entry, (ends.found, inr (ends.entries, (ends.lines, ends.finishes))))))
+journal_stops : (journal : Option (List ℕ)) (c : Call) (asked : Asked) (cause : ToolStop) → is_decided_cause cause ≡ true →
+    JournalStops (code_of c) journal cause → LinesGive journal c asked (Err cause)
+journal_stops journal c asked cause decided why =
+    elim why [ inl lines ↦ inl (cause, (decided, (lines, refl))) | inr entries ↦ inr (entries.0, (entries.1.0, (decided, entries.1.1))) ]
+
+replay_ends : (source : Told) (bytes : List ℕ) (asked : Asked) (status : ℕ) (text : List ℕ) → source.left ≡ Some bytes →
+    ReplayEnds source asked status text → ReplayGives bytes asked (Ok (status, text))
+replay_ends source bytes asked status text told ends =
+    given_parts source bytes ends.program ends.journal asked (Ok (status, text)) told ends.was_given
+    (inr (ends.within, inr (ends.c, (ends.is, inr (ends.entries, (ends.lines, ends.replayed))))))
 
 replay_stops : (source : Told) (bytes : List ℕ) (asked : Asked) (cause : ToolStop) → source.left ≡ Some bytes →
     is_decided_cause cause ≡ true → ReplayCauses source asked cause → ReplayGives bytes asked (Err cause)
@@ -373,45 +404,16 @@ replay_stops source bytes asked _ told decided (ReplayCauses.input s why) =
     let input = input_stops input_limit source bytes s told decided why in inl (input.1, ap (λ s. Err (Shared s)) input.0)
 replay_stops source bytes asked _ told decided (ReplayCauses.long_text text journal given long) =
     given_parts source bytes text journal asked _ told given (inl (long, refl))
-replay_stops source bytes asked _ told decided (ReplayCauses.no_entry s text journal given within why) =
+replay_stops source bytes asked _ told decided (ReplayCauses.no_call s text journal given within why) =
     given_parts source bytes text journal asked _ told given (inr (within, inl (s, ((decided, why), refl))))
-replay_stops source bytes asked cause told decided (ReplayCauses.no_journal c text journal f given within found why) =
-    given_parts source bytes text journal asked _ told given
-    (inr (within, inr (f, (found, inl (cause, (decided, (why, refl)))))))
-replay_stops source bytes asked cause told decided (ReplayCauses.no_end c text journal f entries given within found lines why) =
-    given_parts source bytes text journal asked _ told given
-    (inr (within, inr (f, (found, inr (entries, (lines, (decided, why)))))))
+replay_stops source bytes asked cause told decided (ReplayCauses.no_run s text journal c given within is why) =
+    given_parts source bytes text journal asked _ told given (inr (within, inr (c, (is, journal_stops journal c asked cause decided why))))
 
 -- ---- `source`
 
-abbrev fit_stop : Fitted → Option Stop
-fit_stop (Wrong at) = Some (stop.Args at)
-fit_stop (Fits values) = None
-
--- why there is no run
-abbrev run_stop : Module → List Arg → Result FuncNo EntryFault → Option Stop
-run_stop p args (Err entry_fault.NoEntry) = Some stop.NoEntry
-run_stop p args (Err (entry_fault.EntryType op)) = Some (stop.EntryType op)
-run_stop p args (Ok number) = fit_stop (fitted_args (types_at p number) args)
-
-run_fails : (p : Module) (asked : Asked) (s : Stop) → is_decided s ≡ true → RunFails p asked s →
-    run_stop p asked.args (entry_of p asked.entry) ≡ Some s
-run_fails p asked stop.NoEntry decided why = ap (run_stop p asked.args) why
-run_fails p asked (stop.EntryType op) decided why = ap (run_stop p asked.args) why
-run_fails p asked (stop.Args at) decided why = ap (run_stop p asked.args) why.1.0 ∙ ap fit_stop why.1.1
-run_fails p asked stop.OutOfMemory decided why = absurd (cc decided)
-run_fails p asked stop.Words decided why = absurd why
-run_fails p asked stop.Read decided why = absurd why
-run_fails p asked (stop.TooLong limit) decided why = absurd why
-run_fails p asked (stop.Module fault) decided why = absurd why
-run_fails p asked (stop.NotYet op) decided why = absurd why
-run_fails p asked (stop.Short parked) decided why = absurd why
-run_fails p asked (stop.Spent entries) decided why = absurd why
-run_fails p asked (stop.Write written) decided why = absurd why
-
-runs_on : (p : Module) (asked : Asked) (status : ℕ) (text : List ℕ) → IsReported p asked status text →
-    run_stop p asked.args (entry_of p asked.entry) ≡ None
-runs_on p asked status text is = ap (run_stop p asked.args) is.run.found ∙ ap fit_stop is.run.fits
+reported_named : (p : Module) (asked : Asked) (status : ℕ) (text : List ℕ) → IsReported p asked status text →
+    entry_stop p asked.args (entry_of p asked.entry) ≡ None
+reported_named p asked status text is = named_stop p asked is.run.function (Fits is.run.values) is.run.names
 
 same_race : (ended : Bool) (trace : List TraceEntry) (r q : Option (ℕ × ℕ)) → IsRace ended trace r → IsRace ended trace q → r ≡ q
 same_race true trace r q a b = one_race trace r q a b
@@ -420,17 +422,12 @@ same_race false trace r q a b = a ∙ sym b
 -- a module's run has one report
 one_report : (p : Module) (asked : Asked) (m n : ℕ) (t u : List ℕ) → IsReported p asked m t → IsReported p asked n u → (m ≡ n) × (t ≡ u)
 one_report p asked m n t u a b =
-    let founds : Ok a.run.number ≡ Ok b.run.number = sym a.run.found ∙ b.run.found in
-    let numbers : a.run.number ≡ b.run.number = cc founds in
-    let fits : fitted_args (types_at p a.run.number) asked.args ≡ Fits b.run.values =
-    subst (λ k. fitted_args (types_at p k) asked.args ≡ Fits b.run.values) (sym numbers) b.run.fits in
-    let both : Fits a.run.values ≡ Fits b.run.values = sym a.run.fits ∙ fits in
-    let values : a.run.values ≡ b.run.values = cc both in
-    let here : Means p a.run.number.0 b.run.values asked.fuel b.end b.trace =
-    subst (λ (k : FuncNo). Means p k.0 b.run.values asked.fuel b.end b.trace) (sym numbers) b.run.means in
-    let same : Means p a.run.number.0 a.run.values asked.fuel b.end b.trace =
-    subst (λ vs. Means p a.run.number.0 vs asked.fuel b.end b.trace) (sym values) here in
-    let one = one_run p a.run.number.0 a.run.values asked.fuel a.end b.end a.trace b.trace a.run.means same in
+    let both = one_names p asked a.run.function b.run.function a.run.values b.run.values a.run.names b.run.names in
+    let here : Means p a.run.function.0 b.run.values asked.fuel b.end b.trace =
+    subst (λ (k : FuncNo). Means p k.0 b.run.values asked.fuel b.end b.trace) (sym both.0) b.run.means in
+    let same : Means p a.run.function.0 a.run.values asked.fuel b.end b.trace =
+    subst (λ vs. Means p a.run.function.0 vs asked.fuel b.end b.trace) (sym both.1) here in
+    let one = one_run p a.run.function.0 a.run.values asked.fuel a.end b.end a.trace b.trace a.run.means same in
     let there : IsRace (has_ended a.end) b.trace b.race = subst (λ e. IsRace (has_ended e) b.trace b.race) (sym one.0) b.first in
     let races : a.race ≡ b.race =
     same_race (has_ended a.end) a.trace a.race b.race a.first (subst (λ l. IsRace (has_ended a.end) l b.race) (sym one.1) there) in (
@@ -439,12 +436,9 @@ one_report p asked m n t u a b =
           ∙ ap (source_text p b.end b.trace) races ∙ sym b.told,
     )
 
-abbrev Reported : Type 0
-Reported = Result (ℕ × List ℕ) ToolStop
-
 abbrev RunReports : Module → Asked → Reported → Type 0
 RunReports p asked r =
-    ((s : Stop) × ((is_decided s ≡ true) × (RunFails p asked s × (r ≡ Err (Shared s)))))
+    ((s : Stop) × ((is_decided s ≡ true) × (EntryStops p asked s × (r ≡ Err (Shared s)))))
     ⊎ ((status : ℕ) × ((text : List ℕ) × (IsReported p asked status text × (r ≡ Ok (status, text)))))
 
 reports_alike : (p : Module) (asked : Asked) (r q : Reported) → RunReports p asked r → RunReports p asked q → r ≡ q
@@ -452,13 +446,13 @@ reports_alike p asked r q a b =
     elim a [
       | inl x ↦ elim b [
         | inl y ↦
-            let both : Some x.0 ≡ Some y.0 = sym (run_fails p asked x.0 x.1.0 x.1.1.0) ∙ run_fails p asked y.0 y.1.0 y.1.1.0 in
+            let both : Some x.0 ≡ Some y.0 = sym (entry_why p asked x.0 x.1.0 x.1.1.0) ∙ entry_why p asked y.0 y.1.0 y.1.1.0 in
             let stops : x.0 ≡ y.0 = cc both in
             x.1.1.1 ∙ ap (λ s. Err (Shared s)) stops ∙ sym y.1.1.1
-        | inr y ↦ absurd (cc (sym (runs_on p asked y.0 y.1.0 y.1.1.0) ∙ run_fails p asked x.0 x.1.0 x.1.1.0))
+        | inr y ↦ absurd (cc (sym (reported_named p asked y.0 y.1.0 y.1.1.0) ∙ entry_why p asked x.0 x.1.0 x.1.1.0))
       ]
       | inr x ↦ elim b [
-        | inl y ↦ absurd (cc (sym (runs_on p asked x.0 x.1.0 x.1.1.0) ∙ run_fails p asked y.0 y.1.0 y.1.1.0))
+        | inl y ↦ absurd (cc (sym (reported_named p asked x.0 x.1.0 x.1.1.0) ∙ entry_why p asked y.0 y.1.0 y.1.1.0))
         | inr y ↦
             let one = one_report p asked x.0 y.0 x.1.0 y.1.0 x.1.1.0 y.1.1.0 in
             x.1.1.1 ∙ ap (λ k. Ok (k, x.1.0)) one.0 ∙ ap (λ l. Ok (y.0, l)) one.1 ∙ sym y.1.1.1
@@ -522,28 +516,28 @@ with_zero (Err cause) = Err cause
 
 abbrev CommandGives : Command → List ℕ → Asked → Reported → Type 0
 CommandGives Check bytes asked r = (q : Result (List ℕ) ToolStop) × (CheckGives bytes q × (r ≡ with_zero q))
-CommandGives Replay bytes asked r = (q : Result (List ℕ) ToolStop) × (ReplayGives bytes asked q × (r ≡ with_zero q))
+CommandGives Replay bytes asked r = ReplayGives bytes asked r
 CommandGives Source bytes asked r = SourceGives bytes asked r
 CommandGives Run bytes asked r = r ≡ Err (Shared stop.Words)
 
 commands_alike : Journals → OneAnswer → (command : Command) (bytes : List ℕ) (asked : Asked) (r q : Reported) →
     CommandGives command bytes asked r → CommandGives command bytes asked q → r ≡ q
 commands_alike laws law Check bytes asked r q a b = a.1.1 ∙ ap with_zero (checks_alike law bytes a.0 b.0 a.1.0 b.1.0) ∙ sym b.1.1
-commands_alike laws law Replay bytes asked r q a b = a.1.1 ∙ ap with_zero (replays_alike laws law bytes asked a.0 b.0 a.1.0 b.1.0) ∙ sym b.1.1
+commands_alike laws law Replay bytes asked r q a b = replays_alike laws law bytes asked r q a b
 commands_alike laws law Source bytes asked r q a b = sources_alike law bytes asked r q a b
 commands_alike laws law Run bytes asked r q a b = a ∙ sym b
 
 command_ends : (command : Command) (source : Told) (bytes : List ℕ) (asked : Asked) (status : ℕ) (text : List ℕ) → source.left ≡ Some bytes →
     CommandEnds command source asked status text → CommandGives command bytes asked (Ok (status, text))
 command_ends Check source bytes asked status text told ends = (Ok text, (check_ends source bytes text told ends.1, ap (λ n. Ok (n, text)) ends.0))
-command_ends Replay source bytes asked status text told ends = (Ok text, (replay_ends source bytes asked text told ends.1, ap (λ n. Ok (n, text)) ends.0))
+command_ends Replay source bytes asked status text told ends = replay_ends source bytes asked status text told ends
 command_ends Source source bytes asked status text told ends = source_ends source bytes asked status text told ends
 command_ends Run source bytes asked status text told ends = absurd ends
 
 command_stops : (command : Command) (source : Told) (bytes : List ℕ) (asked : Asked) (cause : ToolStop) → source.left ≡ Some bytes →
     is_decided_cause cause ≡ true → CommandCauses command source asked cause → CommandGives command bytes asked (Err cause)
 command_stops Check source bytes asked cause told decided why = (Err cause, (check_stops source bytes cause told decided why, refl))
-command_stops Replay source bytes asked cause told decided why = (Err cause, (replay_stops source bytes asked cause told decided why, refl))
+command_stops Replay source bytes asked cause told decided why = replay_stops source bytes asked cause told decided why
 command_stops Source source bytes asked cause told decided why = source_stops source bytes asked cause told decided why
 command_stops Run source bytes asked cause told decided why = ap Err why
 
@@ -563,6 +557,11 @@ cause_decided (Shared (stop.EntryType op)) is = refl
 cause_decided (Shared (stop.Args at)) is = refl
 cause_decided (Shared (stop.NotYet op)) is = refl
 cause_decided (Shared (stop.Short parked)) is = refl
+cause_decided (Shared (stop.Objects live)) is = refl
+cause_decided (Shared (stop.Tasks live)) is = refl
+cause_decided (Shared (stop.Cells used)) is = refl
+cause_decided (Shared (stop.Stack depth)) is = refl
+cause_decided (Shared (stop.Group size)) is = refl
 cause_decided (Shared (stop.Spent entries)) is = refl
 
 -- a status and its text, as what they stand for

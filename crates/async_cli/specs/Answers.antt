@@ -3,11 +3,9 @@ use Rattle.std.specs.Prelude.{ℕ, ◌≡◌, ◌≤◌, ◌⊎◌, List, [], le
 use Rattle.std.specs.Io.KnownBytes.{Appends}
 use Rattle.aio_base.specs.Faults.{Rose}
 use Rattle.aio_base.specs.Whole.{Told, ReadsWhole, ReadsPast, WritesFront}
-use Rattle.arguments.specs.Fits.{Fitted, Fits, Wrong, fitted_args}
+use Rattle.arguments.specs.Fits.{Fitted, Wrong, fitted_args}
 use Rattle.ir_forms.specs.declared.args.Arg.{Arg}
-use Rattle.ir_forms.specs.declared.args.ArgValue.{ArgValue}
 use Rattle.ir_forms.specs.declared.types.Ty.{Ty}
-use Rattle.ir_forms.specs.declared.ops.Func.{Func}
 use Rattle.ir_forms.specs.declared.ops.Module.{Module}
 use Rattle.ir_forms.specs.declared.runs.FuncNo.{FuncNo}
 use Rattle.ir_forms.specs.Numbers.{renumbered}
@@ -20,12 +18,12 @@ use Rattle.ir_verify.specs.declared.entry.EntryFault.TheVariants as entry_fault
 use Rattle.ir_verify.specs.Entry.{entry_from}
 use Rattle.ir_verify.specs.Verdict.{IsSound, IsFirst}
 use Rattle.async_cli.specs.declared.stops.Stop.{Stop}
-use Rattle.async_cli.specs.declared.stops.Stop.TheVariants.{Read, TooLong, NoEntry, EntryType, Args, NotYet, OutOfMemory}
+use Rattle.async_cli.specs.declared.stops.Stop.TheVariants.{Read, TooLong, NoEntry, EntryType, Args, OutOfMemory}
 use Rattle.async_cli.specs.declared.stops.Stop.TheVariants as stop
 use Rattle.async_cli.specs.declared.stops.ModuleFault.TheVariants.{Text, Verify}
 use Rattle.async_cli.specs.declared.answering.Written.{Written}
 use Rattle.async_cli.specs.declared.answering.Written.TheVariants.{Whole, Broken, NoMemory}
-use Rattle.async_cli.specs.NotYet.{first_not_yet}
+use Rattle.source_meaning.specs.Parts.{func_params}
 use Rattle.async_cli.specs.Words.{Asked}
 
 -- what a call is given: its words, and what its source tells before it and after it
@@ -77,26 +75,14 @@ ModuleStops text _ = ⊥
 abbrev pub entry_of : Module → List ℕ → Result FuncNo EntryFault
 entry_of program name = entry_from 0 program.funcs name
 
--- which parameters' types a function has
-abbrev pub types_of : Func → List Ty
-types_of f = map (λ p. p.1) f.params
+-- the types of the parameters of the function at a place
+abbrev pub types_at : Module → FuncNo → List Ty
+types_at program function = map (λ p. p.1) (func_params (slice_get program.funcs function.0))
 
--- the function that is asked for, of this number, and whether the arguments fit it
-pub record Names (program : Module) (asked : Asked) (entry : Func) (fitted : Fitted) : Type 0 where
-  pub number : FuncNo
-  pub found : entry_of program asked.entry ≡ Ok number
-  pub is : slice_get program.funcs number.0 ≡ Some entry
-  pub fits : fitted_args (types_of entry) asked.args ≡ fitted
-
--- this function is the module's entry that is asked for, the arguments fit it, and a run can take all of the module's operations
-pub record IsEntry (program : Module) (asked : Asked) (entry : Func) : Type 0 where
-  pub values : List ArgValue
-  pub names : Names program asked entry (Fits values)
-  pub runs : first_not_yet program ≡ None
-
--- the text is that of a module with this entry, which breaks no rule
-abbrev pub HasEntry : List ℕ → Asked → Func → Type 0
-HasEntry text asked entry = (program : Module) × (IsAccepted text program × IsEntry program asked entry)
+-- this is the entry that is asked for, and the arguments come to this for its parameters
+pub record Names (program : Module) (asked : Asked) (function : FuncNo) (fitted : Fitted) : Type 0 where
+  pub found : entry_of program asked.entry ≡ Ok function
+  pub fits : fitted_args (types_at program function) asked.args ≡ fitted
 
 -- why the entry isn't found
 abbrev pub FindStops : Module → List ℕ → Stop → Type 0
@@ -105,24 +91,16 @@ FindStops program name (EntryType op) = entry_of program name ≡ Err (entry_fau
 FindStops program name OutOfMemory = ⊤
 FindStops program name _ = ⊥
 
--- why arguments don't fit it
-abbrev pub FitStops : Func → List Arg → Stop → Type 0
-FitStops entry args (Args at) = fitted_args (types_of entry) args ≡ Wrong at
-FitStops entry args OutOfMemory = ⊤
-FitStops entry args _ = ⊥
+-- why arguments don't fit parameters of these types
+abbrev pub FitStops : List Ty → List Arg → Stop → Type 0
+FitStops types args (Args at) = fitted_args types args ≡ Wrong at
+FitStops types args OutOfMemory = ⊤
+FitStops types args _ = ⊥
 
--- why a module has no entry that can be run as it is asked for
+-- why a module has no entry that can be called as it is asked for
 abbrev pub EntryStops : Module → Asked → Stop → Type 0
-EntryStops program asked NoEntry = entry_of program asked.entry ≡ Err entry_fault.NoEntry
-EntryStops program asked (EntryType op) = entry_of program asked.entry ≡ Err (entry_fault.EntryType op)
-EntryStops program asked (Args at) = (entry : Func) × Names program asked entry (Wrong at)
-EntryStops program asked (NotYet op) = ((entry : Func) × ((values : List ArgValue) × Names program asked entry (Fits values))) × (first_not_yet program ≡ Some op)
-EntryStops program asked OutOfMemory = ⊤
-EntryStops program asked _ = ⊥
-
--- why a text gives no function to run: it gives no module that breaks no rule, or that module has no such entry that can be run
-abbrev pub TextStops : List ℕ → Asked → Stop → Type 0
-TextStops text asked stop = ModuleStops text stop ⊎ ((program : Module) × (IsAccepted text program × EntryStops program asked stop))
+EntryStops program asked (Args at) = (function : FuncNo) × Names program asked function (Wrong at)
+EntryStops program asked stop = FindStops program asked.entry stop
 
 -- ---- what is written
 

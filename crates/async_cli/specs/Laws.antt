@@ -1,10 +1,10 @@
 -- What is owed is a function of the words, the bytes and the journal, where each text has one answer of the reader, which is
 -- the law `one_answer` of `text_laws`.
 use Rattle.std.specs.Prelude.{ℕ, ◌≡◌, ◌≢◌, Bool, true, false, List, Option, Some, None}
-use Rattle.straight_core.specs.declared.ends.Entry.{Entry}
+use Rattle.step_core.specs.declared.ends.Entry.{Entry}
 use Rattle.mlir_text.specs.Texts.{OneAnswer}
 use Rattle.async_cli.specs.declared.stops.Stop.{Stop}
-use Rattle.async_cli.specs.declared.stops.Stop.TheVariants.{Read, Write, OutOfMemory}
+use Rattle.async_cli.specs.declared.stops.Stop.TheVariants.{Read, Objects, Tasks, Cells, Stack, Group, Write, OutOfMemory}
 use Rattle.async_cli.specs.Answers.{Given}
 use Rattle.async_cli.specs.Runs.{Owes}
 use Rattle.async_cli.specs.Tools.{ToolOwes}
@@ -23,18 +23,28 @@ is_decided (Write written) = false
 is_decided OutOfMemory = false
 is_decided _ = true
 
-abbrev pub is_decided_answer : Option Stop → Bool
-is_decided_answer None = true
-is_decided_answer (Some stop) = is_decided stop
+-- Nor a limit of a run: where several tasks can take a step, the journal doesn't tell whose step would have passed it.
+abbrev pub is_settled : Stop → Bool
+is_settled (Objects live) = false
+is_settled (Tasks live) = false
+is_settled (Cells used) = false
+is_settled (Stack depth) = false
+is_settled (Group size) = false
+is_settled stop = is_decided stop
 
--- the same, of a status
+abbrev pub is_settled_answer : Option Stop → Bool
+is_settled_answer None = true
+is_settled_answer (Some stop) = is_settled stop
+
+-- decided, of a status
 abbrev pub IsDecided : ℕ → Type 0
 IsDecided status = (status ≢ 7) × ((status ≢ 8) × (status ≢ 9))
 
--- `run` owes one answer and one text for the same words, bytes and journal
+-- `run` owes one answer, one status and one text for the same words, bytes and journal
 abbrev pub RunOwesOne : Type 0
-RunOwesOne = (g h : Given) (journal : List Entry) (a b : Option Stop) (s t : List ℕ) → AreAlike g h
-    → is_decided_answer a ≡ true → is_decided_answer b ≡ true → Owes g journal a s → Owes h journal b t → (a ≡ b) × (s ≡ t)
+RunOwesOne = (g h : Given) (journal : List Entry) (a b : Option Stop) (m n : ℕ) (s t : List ℕ) → AreAlike g h
+    → is_settled_answer a ≡ true → is_settled_answer b ≡ true → Owes g journal a m s → Owes h journal b n t
+    → (a ≡ b) × ((m ≡ n) × (s ≡ t))
 
 -- `tool` owes one status and one text for the same words and bytes
 abbrev pub ToolOwesOne : Type 0

@@ -1,10 +1,8 @@
 pub mod Answers
+pub mod Calls
 pub mod Checks
-pub mod Driven
-pub mod Held
 pub mod Inputs
 pub mod Laws
-pub mod NotYet
 pub mod Replays
 pub mod Runs
 pub mod Stops

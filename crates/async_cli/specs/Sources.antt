@@ -1,45 +1,27 @@
 -- What `source` owes for each answer.
-use Rattle.std.specs.Prelude.{ℕ, ◌≡◌, Bool, true, false, List, map, slice_get, Option, None, Ok, Err, ⊤}
+use Rattle.std.specs.Prelude.{ℕ, ◌≡◌, Bool, true, false, List, Option, None}
 use Rattle.aio_base.specs.Whole.{Told}
-use Rattle.arguments.specs.Fits.{Fits, Wrong, fitted_args}
+use Rattle.arguments.specs.Fits.{Fits}
 use Rattle.ir_forms.specs.declared.args.ArgValue.{ArgValue}
 use Rattle.ir_forms.specs.declared.names.TraceEntry.{TraceEntry}
 use Rattle.ir_forms.specs.declared.ops.Module.{Module}
 use Rattle.ir_forms.specs.declared.runs.FuncNo.{FuncNo}
-use Rattle.ir_forms.specs.declared.types.Ty.{Ty}
-use Rattle.ir_verify.specs.declared.entry.EntryFault.TheVariants as entry_fault
 use Rattle.race_order.specs.Race.{IsAnswer}
 use Rattle.run_report.specs.Source.{has_ended, source_status, source_text}
 use Rattle.source_meaning.specs.declared.ends.SourceEnd.{SourceEnd}
-use Rattle.source_meaning.specs.Parts.{func_params}
 use Rattle.source_meaning.specs.Sequential.{Means}
 use Rattle.async_cli.specs.declared.stops.Stop.{Stop}
-use Rattle.async_cli.specs.declared.stops.Stop.TheVariants.{NoEntry, EntryType, Args, OutOfMemory}
 use Rattle.async_cli.specs.declared.tool_stops.ToolStop.{ToolStop}
 use Rattle.async_cli.specs.declared.tool_stops.ToolStop.TheVariants.{Shared}
 use Rattle.async_cli.specs.Words.{Asked}
-use Rattle.async_cli.specs.Answers.{text_limit, IsInput, InputStops, IsAccepted, ModuleStops, entry_of}
-
--- the types of the parameters of the function at a place
-abbrev pub types_at : Module → FuncNo → List Ty
-types_at program number = map (λ p. p.1) (func_params (slice_get program.funcs number.0))
+use Rattle.async_cli.specs.Answers.{text_limit, IsInput, InputStops, IsAccepted, ModuleStops, Names, EntryStops}
 
 -- the sequential run of the entry that is asked for, with the arguments and the fuel that are, has this end and this trace
 pub record IsRun (program : Module) (asked : Asked) (end : SourceEnd) (trace : List TraceEntry) : Type 0 where
-  pub number : FuncNo
+  pub function : FuncNo
   pub values : List ArgValue
-  pub found : entry_of program asked.entry ≡ Ok number
-  pub fits : fitted_args (types_at program number) asked.args ≡ Fits values
-  pub means : Means program number.0 values asked.fuel end trace
-
--- why there is no such run
-abbrev pub RunFails : Module → Asked → Stop → Type 0
-RunFails program asked NoEntry = entry_of program asked.entry ≡ Err entry_fault.NoEntry
-RunFails program asked (EntryType op) = entry_of program asked.entry ≡ Err (entry_fault.EntryType op)
-RunFails program asked (Args at) =
-    (number : FuncNo) × ((entry_of program asked.entry ≡ Ok number) × (fitted_args (types_at program number) asked.args ≡ Wrong at))
-RunFails program asked OutOfMemory = ⊤
-RunFails program asked _ = ⊥
+  pub names : Names program asked function (Fits values)
+  pub means : Means program function.0 values asked.fuel end trace
 
 -- where the run ended by its root, the first race of its trace; a run that was stopped is asked for none
 abbrev pub IsRace : Bool → List TraceEntry → Option (ℕ × ℕ) → Type 0
@@ -69,4 +51,4 @@ pub data SourceCauses (source : Told) (asked : Asked) : ToolStop → Type 0 wher
   input : (cause : Stop) → InputStops text_limit source cause → SourceCauses source asked (Shared cause)
   no_module : (cause : Stop) (bytes : List ℕ) → IsInput text_limit source bytes → ModuleStops bytes cause → SourceCauses source asked (Shared cause)
   no_run : (cause : Stop) (bytes : List ℕ) (program : Module) → IsInput text_limit source bytes → IsAccepted bytes program
-      → RunFails program asked cause → SourceCauses source asked (Shared cause)
+      → EntryStops program asked cause → SourceCauses source asked (Shared cause)

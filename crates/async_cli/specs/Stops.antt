@@ -1,7 +1,9 @@
 -- The status and the text of each answer.
 use Rattle.std.specs.Prelude.{ℕ, if◌then◌else◌, ◌==◌, ◌++◌, List, [], Option, Some, None, codes, ◌≡◌, ⊤}
 use Rattle.async_cli.specs.declared.stops.Stop.{Stop}
-use Rattle.async_cli.specs.declared.stops.Stop.TheVariants.{Words, Read, TooLong, Module, NoEntry, EntryType, Args, NotYet, Short, Spent, Write, OutOfMemory}
+use Rattle.async_cli.specs.declared.stops.Stop.TheVariants.{Words, Read, TooLong, Module, NoEntry, EntryType, Args, NotYet, Short, Objects, Tasks, Cells, Stack, Group, Spent, Write, OutOfMemory}
+use Rattle.async_cli.specs.declared.answering.Written.{Written}
+use Rattle.async_cli.specs.declared.answering.Written.TheVariants.{Whole, Broken, NoMemory}
 use Rattle.async_cli.specs.declared.stops.ModuleFault.{ModuleFault}
 use Rattle.async_cli.specs.declared.stops.ModuleFault.TheVariants.{Text, Verify}
 use Rattle.mlir_lex.specs.declared.kinds.LexFault.{LexFault}
@@ -11,26 +13,46 @@ use Rattle.module_grammar.specs.declared.faults.Limited.TheVariants as limited
 use Rattle.mlir_text.specs.declared.fault.TextFault.{TextFault}
 use Rattle.mlir_text.specs.declared.fault.TextFault.TheVariants as text
 use Rattle.ir_verify.specs.Faults.{name_of_kind}
-use Rattle.straight_core.specs.declared.ends.Entry.{Entry}
-use Rattle.straight_journal.specs.declared.faults.TaskLook.{TaskLook}
+use Rattle.step_core.specs.declared.ends.Entry.{Entry}
+use Rattle.step_core.specs.declared.limits.Limit.{Limit}
+use Rattle.step_core.specs.declared.limits.Limit.TheVariants as limit
+use Rattle.run_journal.specs.declared.faults.TaskLook.{TaskLook}
 use Rattle.async_cli.specs.declared.tool_stops.ToolStop.{ToolStop}
 use Rattle.async_cli.specs.declared.tool_stops.ToolStop.TheVariants.{Shared, BadLine, NotARun, Unfinished}
 use Rattle.async_cli.specs.Texts.{numbered, between}
 
-abbrev pub status_of : Option Stop → ℕ
-status_of None = 0
-status_of (Some Words) = 2
-status_of (Some (TooLong limit)) = 3
-status_of (Some (Module fault)) = 3
-status_of (Some NoEntry) = 3
-status_of (Some (EntryType op)) = 3
-status_of (Some (Args at)) = 3
-status_of (Some (NotYet op)) = 3
-status_of (Some (Short parked)) = 4
-status_of (Some (Spent entries)) = 6
-status_of (Some Read) = 7
-status_of (Some (Write written)) = 8
-status_of (Some OutOfMemory) = 9
+abbrev pub stop_status : Stop → ℕ
+stop_status Words = 2
+stop_status (TooLong limit) = 3
+stop_status (Module fault) = 3
+stop_status NoEntry = 3
+stop_status (EntryType op) = 3
+stop_status (Args at) = 3
+stop_status (NotYet op) = 3
+stop_status (Short parked) = 4
+stop_status (Objects live) = 5
+stop_status (Tasks live) = 5
+stop_status (Cells used) = 5
+stop_status (Stack depth) = 5
+stop_status (Group size) = 5
+stop_status (Spent entries) = 6
+stop_status Read = 7
+stop_status (Write written) = 8
+stop_status OutOfMemory = 9
+
+-- the status after what became of the text
+abbrev pub status_after : ℕ → Written → ℕ
+status_after status Whole = status
+status_after status (Broken written) = 8
+status_after status NoMemory = 9
+
+-- the answer where a run would have passed this limit
+abbrev pub limit_stop : Limit → Stop
+limit_stop (limit.Objects live) = Objects live
+limit_stop (limit.Tasks live) = Tasks live
+limit_stop (limit.Cells used) = Cells used
+limit_stop (limit.Stack depth) = Stack depth
+limit_stop (limit.Group size) = Group size
 
 -- the argument of this index doesn't fit; or its index has no room
 abbrev pub IsUnfit : ℕ → Stop → Type 0
@@ -89,6 +111,11 @@ stop_text entry (EntryType op) = numbered (codes "refused: entry type at operati
 stop_text entry (Args at) = numbered (codes "refused: argument ") at (codes "\n")
 stop_text entry (NotYet op) = numbered (codes "refused: NotYet at operation ") op (codes "\n")
 stop_text entry (Short parked) = numbered (codes "stopped: parked tasks ") parked (codes "\n")
+stop_text entry (Objects live) = numbered (codes "stopped: objects ") live (codes "\n")
+stop_text entry (Tasks live) = numbered (codes "stopped: tasks ") live (codes "\n")
+stop_text entry (Cells used) = numbered (codes "stopped: cells ") used (codes "\n")
+stop_text entry (Stack depth) = numbered (codes "stopped: frames ") depth (codes "\n")
+stop_text entry (Group size) = numbered (codes "stopped: group is full at ") size (codes "\n")
 stop_text entry (Spent entries) = numbered (codes "stopped: entries ") entries (codes "\n")
 stop_text entry (Write written) = []
 stop_text entry OutOfMemory = memory_line
@@ -96,7 +123,7 @@ stop_text entry OutOfMemory = memory_line
 -- ---- the answers of the commands that wait for nothing
 
 abbrev pub tool_status : ToolStop → ℕ
-tool_status (Shared stop) = status_of (Some stop)
+tool_status (Shared stop) = stop_status stop
 tool_status (BadLine line) = 3
 tool_status (NotARun number named kept) = 11
 tool_status (Unfinished entries) = 6

@@ -2,14 +2,13 @@
 use Rattle.std.specs.Prelude.{ℕ, ◌≡◌, List, [], Some, None}
 use Rattle.aio_base.specs.Whole.{Told}
 use Rattle.async_cli.specs.declared.answering.Written.{Written}
-use Rattle.async_cli.specs.declared.answering.Written.TheVariants.{Whole, Broken, NoMemory}
 use Rattle.async_cli.specs.declared.stops.Stop.TheVariants.{Words, OutOfMemory}
 use Rattle.async_cli.specs.declared.tool_stops.ToolStop.{ToolStop}
 use Rattle.async_cli.specs.declared.tool_stops.ToolStop.TheVariants.{Shared}
 use Rattle.async_cli.specs.declared.words.Command.{Command}
 use Rattle.async_cli.specs.declared.words.Command.TheVariants.{Check, Run, Source, Replay}
 use Rattle.async_cli.specs.Words.{Asked, asked_of}
-use Rattle.async_cli.specs.Stops.{tool_text, tool_status}
+use Rattle.async_cli.specs.Stops.{tool_text, tool_status, status_after}
 use Rattle.async_cli.specs.Answers.{Given, Gave, IsWritten}
 use Rattle.async_cli.specs.Checks.{CheckCauses, CheckEnds}
 use Rattle.async_cli.specs.Replays.{ReplayCauses, ReplayEnds}
@@ -19,7 +18,7 @@ use Rattle.async_cli.specs.Sources.{SourceCauses, SourceEnds}
 abbrev pub CommandEnds : Command → Told → Asked → ℕ → List ℕ → Type 0
 CommandEnds Check source asked status text = (status ≡ 0) × CheckEnds source text
 CommandEnds Source source asked status text = SourceEnds source asked status text
-CommandEnds Replay source asked status text = (status ≡ 0) × ReplayEnds source asked text
+CommandEnds Replay source asked status text = ReplayEnds source asked status text
 CommandEnds Run source asked status text = ⊥
 
 -- why a command has no end
@@ -37,12 +36,6 @@ pub data ToolOwes (given : Given) : ℕ → List ℕ → Type 0 where
       → CommandEnds asked.command given.source asked status text → ToolOwes given status text
   stopped : (asked : Asked) (cause : ToolStop) → asked_of given.words ≡ Some asked
       → CommandCauses asked.command given.source asked cause → ToolOwes given (tool_status cause) (tool_text asked.entry cause)
-
--- the status after what became of its text
-abbrev pub status_after : ℕ → Written → ℕ
-status_after status Whole = status
-status_after status (Broken written) = 8
-status_after status NoMemory = 9
 
 -- What a call owes for its status: the one owed, or one that tells why its text wasn't written.
 pub record ToolAnswers (given : Given) (gave : Gave) (after : ℕ) : Type 0 where

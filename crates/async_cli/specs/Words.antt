@@ -1,10 +1,11 @@
 -- What the words of a call ask for. A word is its bytes.
-use Rattle.std.specs.Prelude.{ℕ, ◌≡◌, ◌+◌, ◌*◌, ◌-◌, ◌==◌, ◌&&◌, ◌||◌, Bool, true, is_some, nat_le, nat_lt, if◌then◌else◌, List, [], ◌∷◌, take, drop, length, Option, Some, None, option_and_then, codes}
+use Rattle.std.specs.Prelude.{ℕ, ◌≡◌, ◌+◌, ◌*◌, ◌-◌, ◌≤◌, ◌==◌, ◌&&◌, ◌||◌, Bool, true, is_some, nat_le, nat_lt, if◌then◌else◌, List, [], ◌∷◌, take, drop, length, Option, Some, None, option_and_then, codes}
 use Rattle.std.specs.Str.{bytes_eq}
 use Rattle.arguments.specs.Grammar.{Verdict, Whole, Bad, verdict}
 use Rattle.ir_forms.specs.declared.args.Arg.{Arg}
 use Rattle.async_cli.specs.declared.words.Command.{Command}
 use Rattle.async_cli.specs.declared.words.Command.TheVariants.{Check, Run, Source, Replay}
+use Rattle.async_cli.specs.declared.words.Bounds.{Bounds}
 use Rattle.async_cli.specs.declared.words.Flags.{Flags}
 use Rattle.async_cli.specs.declared.words.Asked as code
 
@@ -26,22 +27,34 @@ has_front front word = nat_le (length front) (length word) && bytes_eq (take (le
 abbrev pub behind : List ℕ → List ℕ → Option (List ℕ)
 behind front word = if has_front front word then Some (drop (length front) word) else None
 
-abbrev pub most_fuel : ℕ
-most_fuel = 16777216
-
 abbrev pub is_digit : ℕ → Bool
 is_digit byte = nat_le 48 byte && nat_le byte 57
 
--- the number that these digits write behind those of n, where it is at most the most fuel
-abbrev pub number_behind : ℕ → List ℕ → Option ℕ
-number_behind n [] = Some n
-number_behind n (byte ∷ bytes) =
-    if is_digit byte then (if nat_le (n * 10 + (byte - 48)) most_fuel then number_behind (n * 10 + (byte - 48)) bytes else None) else None
+-- the number that these digits write behind those of n, where it is at most the most
+abbrev pub number_behind : ℕ → ℕ → List ℕ → Option ℕ
+number_behind most n [] = Some n
+number_behind most n (byte ∷ bytes) =
+    if is_digit byte then (if nat_le (n * 10 + (byte - 48)) most then number_behind most (n * 10 + (byte - 48)) bytes else None) else None
 
--- a fuel in decimal, which is at least 1
-abbrev pub fuel_of : List ℕ → Option ℕ
-fuel_of [] = None
-fuel_of (byte ∷ bytes) = option_and_then (λ n. if n == 0 then None else Some n) (number_behind 0 (byte ∷ bytes))
+-- a number in decimal, from 1 to the most
+abbrev pub number_of : ℕ → List ℕ → Option ℕ
+number_of most [] = None
+number_of most (byte ∷ bytes) = option_and_then (λ n. if n == 0 then None else Some n) (number_behind most 0 (byte ∷ bytes))
+
+-- the word is an option of this beginning, with such a number
+abbrev pub sets_number : List ℕ → ℕ → List ℕ → Bool
+sets_number front most word = is_some (option_and_then (number_of most) (behind front word))
+
+-- ---- the most that can be asked for
+
+abbrev pub most_fuel : ℕ
+most_fuel = 16777216
+
+abbrev pub most_objects : ℕ
+most_objects = 65536
+
+abbrev pub most_entries : ℕ
+most_entries = 16777216
 
 -- the arguments that were read
 abbrev pub args_read : Verdict → Option (List Arg)
@@ -58,8 +71,10 @@ is_option word =
     bytes_eq word (codes "--steps")
     || (bytes_eq word (codes "--journal")
     || (has_front (codes "--entry=") word
-    || (is_some (option_and_then fuel_of (behind (codes "--fuel=") word))
-    || is_some (option_and_then args_of (behind (codes "--args=") word)))))
+    || (sets_number (codes "--fuel=") most_fuel word
+    || (sets_number (codes "--objects=") most_objects word
+    || (sets_number (codes "--entries=") most_entries word
+    || is_some (option_and_then args_of (behind (codes "--args=") word)))))))
 
 -- ---- the words after the command
 
@@ -84,7 +99,9 @@ stand_once words =
     && (nat_lt (count_of (codes "--journal") words) 2
     && (nat_lt (count_of (codes "--entry=") words) 2
     && (nat_lt (count_of (codes "--fuel=") words) 2
-    && nat_lt (count_of (codes "--args=") words) 2)))
+    && (nat_lt (count_of (codes "--objects=") words) 2
+    && (nat_lt (count_of (codes "--entries=") words) 2
+    && nat_lt (count_of (codes "--args=") words) 2)))))
 
 -- each is an option, and none stands twice
 abbrev pub are_allowed : List (List ℕ) → Bool
@@ -103,8 +120,20 @@ flags_in words = record {
 abbrev pub entry_in : List (List ℕ) → List ℕ
 entry_in words = or_else (codes "main") (value_of (codes "--entry=") words)
 
+-- the number behind such a beginning; else this one
+abbrev pub number_in : List ℕ → ℕ → ℕ → List (List ℕ) → ℕ
+number_in front most otherwise words = or_else otherwise (option_and_then (number_of most) (value_of front words))
+
+-- how many operations may begin where a module is run in the order of its text
 abbrev pub fuel_in : List (List ℕ) → ℕ
-fuel_in words = or_else 1000000 (option_and_then fuel_of (value_of (codes "--fuel=") words))
+fuel_in words = number_in (codes "--fuel=") most_fuel 1000000 words
+
+-- how many objects may be live, and how many entries a journal may have
+abbrev pub bounds_in : List (List ℕ) → Bounds
+bounds_in words = record {
+  objects = number_in (codes "--objects=") most_objects 4096 words;
+  entries = number_in (codes "--entries=") most_entries 4194304 words;
+}
 
 -- the text of the arguments
 abbrev pub args_text : List (List ℕ) → List ℕ
@@ -114,6 +143,10 @@ args_text words = or_else [] (value_of (codes "--args=") words)
 abbrev pub args_said : List ℕ → List Arg
 args_said text = or_else [] (args_of text)
 
+-- what can be asked for
+abbrev pub AreBounds : Bounds → Type 0
+AreBounds bounds = (bounds.objects ≤ most_objects) × (bounds.entries ≤ most_entries)
+
 -- ---- a call
 
 -- what a call is asked: a command and its options
@@ -122,15 +155,32 @@ pub record Asked : Type 0 where
   pub entry : List ℕ
   pub args : List Arg
   pub fuel : ℕ
+  pub bounds : Bounds
   pub flags : Flags
 
 abbrev pub seen : code.Asked → Asked
-seen a = record { command = a.command; entry = a.entry.now; args = args_said a.args.now; fuel = a.fuel; flags = a.flags }
+seen a = record {
+  command = a.command;
+  entry = a.entry.now;
+  args = args_said a.args.now;
+  fuel = a.fuel;
+  bounds = a.bounds;
+  flags = a.flags;
+}
+
+-- what these options ask of this command
+abbrev pub asked_in : List (List ℕ) → Command → Asked
+asked_in words command = record {
+  command = command;
+  entry = entry_in words;
+  args = args_said (args_text words);
+  fuel = fuel_in words;
+  bounds = bounds_in words;
+  flags = flags_in words;
+}
 
 abbrev pub with_options : List (List ℕ) → Command → Option Asked
-with_options words command =
-    if are_allowed words then Some (record { command = command; entry = entry_in words; args = args_said (args_text words); fuel = fuel_in words; flags = flags_in words })
-    else None
+with_options words command = if are_allowed words then Some (asked_in words command) else None
 
 -- the first word is a command, and the others are its options in any order, each at most once
 abbrev pub asked_of : List (List ℕ) → Option Asked

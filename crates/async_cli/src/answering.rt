@@ -2,7 +2,7 @@
 
 ghost use Rattle.std.specs.Prelude.{◌≡◌};
 ghost use Rattle.async_cli.specs.Answers.{Gave, IsWritten};
-ghost use Rattle.async_cli.specs.Stops.{tool_text};
+ghost use Rattle.async_cli.specs.Stops.{status_after, tool_text};
 
 use crate::tool_stops::ToolStop;
 use aio_base::{Sink, WriteFault, write_all};
@@ -48,5 +48,16 @@ pub fn write_cause<K: Sink>(alloc: Global, sink: &mut K, entry: &[u8], cause: To
     match cause.push_text(entry, &mut text) {
         Ok(()) => write_text(sink, text.as_slice()),
         Err(_) => Written::NoMemory,
+    }
+}
+
+/// The status after what became of the text.
+pub fn status_after(status: u8, written: Written) -> u8
+    ensures { result ≡ status_after status written }
+{
+    match written {
+        Written::Whole => status,
+        Written::Broken { .. } => 8,
+        Written::NoMemory => 9,
     }
 }

@@ -1,30 +1,21 @@
-//! What the commands read: all of the source, and the code of the entry of a module's text.
+//! What the commands read: all of the source, a module's text, and its entry.
 
-ghost use Rattle.std.specs.Prelude.{◌≡◌, ℕ, ◌≤◌, ◌<◌, ◌+◌, ◌^◌, true, false, length, take, drop, slice_get, List, Ok, Some, IfOk, MatchResult, MatchOption};
+ghost use Rattle.std.specs.Prelude.{◌≡◌, ℕ, ◌≤◌, ◌<◌, ◌^◌, true, false, length, drop, Ok, IfOk, MatchResult, MatchOption};
 ghost use Rattle.std.specs.Option.{option_copied};
 ghost use Rattle.aio_base.specs.Whole.{Told};
-ghost use Rattle.ir_forms.specs.declared.ops.Func.{Func as TheFunc};
-ghost use Rattle.straight_core.specs.Code.{straight_of};
-ghost use Rattle.async_cli.specs.Answers.{IsInput, InputStops, IsAccepted, ModuleStops, IsEntry, EntryStops, HasEntry, TextStops};
-ghost use Rattle.arguments.specs.Fits.{Fits, fitted_args};
-ghost use Rattle.ir_forms.specs.declared.args.ArgValue.{ArgValue};
+ghost use Rattle.async_cli.specs.Answers.{IsInput, InputStops, IsAccepted, ModuleStops, FindStops};
+ghost use Rattle.async_cli.specs.Answers as answers;
 ghost use Rattle.async_cli.specs.Words as spec;
-ghost use Rattle.async_cli.specs.Words.{seen};
-ghost use Rattle.async_cli.specs.Answers as spec_entry;
-ghost use Rattle.async_cli.specs.Answers.{types_of, FitStops, FindStops};
 ghost use Rattle.async_cli.specs.Inputs.{begins_line, ends_line, is_heading, IsSplit};
 
-use crate::not_yet::first_not_yet;
 use crate::stops::{ModuleFault, Stop};
-use crate::words::Asked;
 use aio_base::{ReadAllError, Source, read_all};
-use arguments::{ArgsBad, BadArgs, fit_args, read_bytes};
-use ir_forms::{Arg, Func, FuncNo, Level, operation_count, renumber};
+use arguments::{ArgsBad, read_bytes};
+use ir_forms::{Arg, FuncNo, Level, operation_count, renumber};
 use ir_verify::{EntryFault, Verified, VerifyFault, entry_of, verify};
 use lists::Items;
 use mlir_text::{PROGRAM_LIMITS, TextFault, parse};
 use std::alloc::{AllocError, Global};
-use straight_core::Straight;
 
 /// The most bytes of a module's text.
 pub const TEXT_LIMIT: u32 = 1_048_576;
@@ -83,23 +74,9 @@ pub fn args_said(alloc: Global, text: &[u8]) -> Result<Items<Arg>, AllocError>
     }
 }
 
-/// Whether the arguments that a text says fit a function's parameters.
-fn check_args(alloc: Global, entry: &Func, text: &[u8]) -> Result<(), Stop>
-    ensures { MatchResult result (λ fits. (values : List ArgValue) × (fitted_args (types_of entry.now) (spec.args_said text.now) ≡ Fits values)) (λ stop. FitStops entry.now (spec.args_said text.now) stop) }
-{
-    let Ok(args) = args_said(alloc, text) else {
-        return Err(Stop::OutOfMemory);
-    };
-    match fit_args(alloc, entry.params.as_slice(), args.as_slice()) {
-        Ok(_) => Ok(()),
-        Err(BadArgs::Argument { at }) => Err(Stop::unfit(at)),
-        Err(BadArgs::OutOfMemory) => Err(Stop::OutOfMemory),
-    }
-}
-
 /// The number of the entry of this name.
 pub fn entry_number(verified: &Verified, name: &[u8]) -> Result<FuncNo, Stop>
-    ensures { MatchResult result (λ number. spec_entry.entry_of verified.now.program name.now ≡ Ok number) (λ stop. FindStops verified.now.program name.now stop) }
+    ensures { MatchResult result (λ number. answers.entry_of verified.now.program name.now ≡ Ok number) (λ stop. FindStops verified.now.program name.now stop) }
 {
     if u32::try_from(verified.module().funcs.len()).is_err() {
         return Err(Stop::OutOfMemory);
@@ -108,49 +85,6 @@ pub fn entry_number(verified: &Verified, name: &[u8]) -> Result<FuncNo, Stop>
         Ok(number) => Ok(number),
         Err(EntryFault::NoEntry) => Err(Stop::NoEntry),
         Err(EntryFault::EntryType { op }) => Err(Stop::EntryType { op }),
-    }
-}
-
-/// The function of this number, which is an entry.
-fn entry_at<'a>(verified: &'a Verified, number: FuncNo) -> &'a Func
-    requires { (name : List ℕ) × (spec_entry.entry_of verified.now.program name ≡ Ok number) }
-    ensures { slice_get verified.entry.now.program.funcs number.0 ≡ Some result.now }
-{
-    match verified.module().funcs.get(number.0 as usize) {
-        Some(entry) => entry,
-        None => unreachable!(),
-    }
-}
-
-/// The code of the entry that is asked for.
-fn entry_code(alloc: Global, verified: &Verified, asked: Asked) -> Result<Straight, Stop>
-    ensures { MatchResult result (λ code. (entry : TheFunc) × (IsEntry verified.now.program (seen asked.entry) entry × (code ≡ straight_of entry))) (λ stop. EntryStops verified.now.program (seen asked.entry) stop) }
-{
-    let number = match entry_number(verified, asked.entry) {
-        Ok(number) => number,
-        Err(stop) => return Err(stop),
-    };
-    let entry = entry_at(verified, number);
-    if let Err(stop) = check_args(alloc, entry, asked.args) {
-        return Err(stop);
-    }
-    match first_not_yet(verified.module()) {
-        Some(op) => Err(Stop::NotYet { op }),
-        None => match Straight::of(alloc, entry) {
-            Ok(code) => Ok(code),
-            Err(_) => Err(Stop::OutOfMemory),
-        },
-    }
-}
-
-/// The code of the entry that is asked for, in the module whose text this is.
-pub fn read_code(alloc: Global, text: &[u8], asked: Asked) -> Result<Straight, Stop>
-    requires { length text.now < 2 ^ 32 }
-    ensures { MatchResult result (λ code. (entry : TheFunc) × (HasEntry text.now (seen asked.entry) entry × (code ≡ straight_of entry))) (λ stop. TextStops text.now (seen asked.entry) stop) }
-{
-    match read_module(alloc, text) {
-        Ok(verified) => entry_code(alloc, &verified, asked),
-        Err(stop) => Err(stop),
     }
 }
 

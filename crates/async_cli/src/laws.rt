@@ -6,8 +6,8 @@ ghost use Rattle.async_cli.specs.Laws.{OwesOneAnswer};
 pub fn owes_one_answer()
     ensures { OwesOneAnswer }
 {
-    straight_journal::one_journal();
-    straight_journal::one_bad_line();
-    straight_journal::no_journal_with_bad_line();
-    straight_journal::replayed_or_named();
+    run_journal::one_journal();
+    run_journal::one_bad_line();
+    run_journal::no_journal_with_bad_line();
+    run_journal::replayed_or_named();
 }

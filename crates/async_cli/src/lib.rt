@@ -2,15 +2,14 @@
 #![tactic(auto)]
 
 mod answering;
+mod calls;
 mod checks;
-mod driver;
 mod host;
 mod input;
 mod laws;
-mod not_yet;
-mod outcome;
 mod replays;
 mod running;
+mod runs;
 mod serving;
 mod sources;
 mod stops;

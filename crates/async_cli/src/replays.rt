@@ -1,38 +1,39 @@
 //! `replay`: a module and a journal of it, from bytes to the text of the run's end.
 
-ghost use Rattle.std.specs.Prelude.{◌≡◌, ◌≤◌, ◌^◌, length, MatchResult, IfSome, Some};
+ghost use Rattle.std.specs.Prelude.{◌≡◌, ◌≤◌, ◌^◌, length, List, MatchResult, IfSome, Some};
 ghost use Rattle.std.specs.Option.{option_copied};
 ghost use Rattle.aio_base.specs.Whole.{Told};
-ghost use Rattle.ir_forms.specs.declared.ops.Func.{Func as TheFunc};
-ghost use Rattle.straight_core.specs.Code.{straight_of};
-ghost use Rattle.async_cli.specs.Runs.{Finishes};
+ghost use Rattle.step_core.specs.declared.ends.Entry.{Entry as TheEntry};
+ghost use Rattle.async_cli.specs.Calls.{Stands, held};
 ghost use Rattle.async_cli.specs.Inputs.{input_limit};
 ghost use Rattle.async_cli.specs.Words.{seen};
-ghost use Rattle.async_cli.specs.Replays.{ReplayCauses, ReplayEnds, AreLines, LineStops, EntryListStops};
+ghost use Rattle.async_cli.specs.Replays.{ReplayCauses, ReplayEnds, AreLines, IsReplayed, JournalStops, LineStops};
 
-use crate::input::{INPUT_LIMIT, TEXT_LIMIT, read_code, read_input, split_input};
+use crate::calls::{Loaded, read_call};
+use crate::input::{INPUT_LIMIT, TEXT_LIMIT, read_input, split_input};
+use crate::runs::replay_call;
+use crate::serving::End;
 use crate::stops::Stop;
-use crate::texts::run_text;
 use crate::tool_stops::ToolStop;
 use crate::words::{Asked, Flags};
 use aio_base::Source;
+use run_journal::{JournalFault, read_journal};
 use std::alloc::Global;
-use straight_core::{Core, Entry, Straight, straight_replays_mean};
-use straight_journal::{JournalFault, ReplayFault, read_journal, replay};
+use step_core::Entry;
 
 /// Reads a module and a journal, replays it, and makes the text of the end.
 pub fn tell_replay<S: Source>(
     alloc: Global,
     asked: Asked,
     source: &mut S,
-) -> Result<Vec<u8>, ToolStop>
+) -> Result<End, ToolStop>
     ensures { let told : Told = record {
       left = S.left source.old;
       left_after = S.left source.new;
       faults = S.faults source.old;
       faults_after = S.faults source.new;
     } in
-        MatchResult result (λ text. ReplayEnds told (seen asked.entry) text.items) (λ stop. ReplayCauses told (seen asked.entry) stop) }
+        MatchResult result (λ end. ReplayEnds told (seen asked.entry) end.status end.text.items) (λ stop. ReplayCauses told (seen asked.entry) stop) }
 {
     let bytes = match read_input(alloc, source, INPUT_LIMIT) {
         Ok(bytes) => bytes,
@@ -42,12 +43,27 @@ pub fn tell_replay<S: Source>(
     if text.len() > TEXT_LIMIT as usize {
         return Err(ToolStop::Shared(Stop::TooLong { limit: TEXT_LIMIT }));
     }
-    let code = match read_code(alloc, text, asked) {
-        Ok(code) => code,
-        Err(stop) => return Err(ToolStop::Shared(stop)),
-    };
+    match read_call(alloc, text, asked) {
+        Ok(loaded) => tell_journal(alloc, &loaded, asked.flags, journal),
+        Err(stop) => Err(ToolStop::Shared(stop)),
+    }
+}
+
+/// Reads a journal, replays it over the code of a call, and makes the text of the end.
+fn tell_journal(
+    alloc: Global,
+    loaded: &Loaded,
+    flags: Flags,
+    journal: Option<&[u8]>,
+) -> Result<End, ToolStop>
+    requires stands { Stands (held loaded.now) }
+    requires within { IfSome (option_copied journal) (λ lines. length lines ≤ input_limit) }
+    ensures { MatchResult result
+        (λ end. (entries : List TheEntry) × (AreLines (option_copied journal.entry) entries × IsReplayed (held loaded.now) loaded.now.notes flags entries end.status end.text.items))
+        (λ stop. JournalStops (held loaded.now) (option_copied journal.entry) stop) }
+{
     match read_entries(alloc, journal) {
-        Ok(entries) => replay_entries(alloc, &code, entries.as_slice(), asked.flags),
+        Ok(entries) => replay_call(alloc, loaded, flags, entries.as_slice()),
         Err(stop) => Err(stop),
     }
 }
@@ -71,35 +87,5 @@ fn read_lines(alloc: Global, lines: &[u8]) -> Result<Vec<Entry>, ToolStop>
         Ok(entries) => Ok(entries),
         Err(JournalFault::BadLine { line }) => Err(ToolStop::BadLine { line }),
         Err(JournalFault::OutOfMemory) => Err(ToolStop::Shared(Stop::OutOfMemory)),
-    }
-}
-
-/// Replays entries over the code of a function, and makes the text of the end.
-fn replay_entries(
-    alloc: Global,
-    code: &Straight,
-    entries: &[Entry],
-    flags: Flags,
-) -> Result<Vec<u8>, ToolStop>
-    requires { length entries.now ≤ 2 ^ 27 }
-    ensures { (entry : TheFunc) → code.now ≡ straight_of entry →
-        MatchResult result (λ text. Finishes entry flags entries.now text.items) (λ stop. EntryListStops entry entries.now stop) }
-{
-    let core = match replay(alloc, code, entries) {
-        Ok(core) => core,
-        Err(ReplayFault::NotARun { entry, named, kept }) => {
-            return Err(ToolStop::NotARun { entry, named, kept });
-        }
-        Err(ReplayFault::OutOfMemory) => return Err(ToolStop::Shared(Stop::OutOfMemory)),
-    };
-    straight_replays_mean();
-    if !core.finished() {
-        return Err(ToolStop::Unfinished {
-            entries: entries.len() as u32,
-        });
-    }
-    match run_text(alloc, flags, &core, entries) {
-        Ok(text) => Ok(text),
-        Err(_) => Err(ToolStop::Shared(Stop::OutOfMemory)),
     }
 }

@@ -1,33 +1,31 @@
 //! `run`: one module, from bytes to the text of its run's end.
 
-ghost use Rattle.std.specs.Prelude.{◌≡◌, ℕ, List, [], map, option_map, IfOk, MatchResult, None, Some};
+ghost use Rattle.std.specs.Prelude.{◌≡◌, ℕ, List, [], map, option_map, IfOk, IfSome, MatchResult, None, Some};
 ghost use Rattle.std.specs.String.{string_bytes};
 ghost use Rattle.aio_base.specs.Whole.{Told};
-ghost use Rattle.ir_forms.specs.declared.ops.Func.{Func as TheFunc};
-ghost use Rattle.straight_core.specs.Code.{straight_of};
 ghost use Rattle.async_cli.specs.declared.words.Command.TheVariants.{Run};
-ghost use Rattle.async_cli.specs.Words.{seen, asked_of, AsksFor};
+ghost use Rattle.async_cli.specs.Words.{AreBounds, seen, asked_of, AsksFor};
 ghost use Rattle.async_cli.specs.Answers.{Given, Gave, IsWritten};
-ghost use Rattle.async_cli.specs.Runs.{Answers, Causes, Ends, RunStops, Finishes, stop_after};
-ghost use Rattle.async_cli.specs.Stops.{status_of, stop_text};
+ghost use Rattle.async_cli.specs.Runs.{Answers, Causes, Ends, stop_after};
+ghost use Rattle.async_cli.specs.Stops.{status_after, stop_status, stop_text};
 
-use crate::answering::{Written, write_cause, write_text};
-use crate::driver::{ENTRY_LIMIT, drive};
-use crate::input::{TEXT_LIMIT, read_code, read_input};
-use crate::outcome::Outcome;
+use crate::answering::{Written, status_after, write_cause, write_text};
+use crate::calls::read_call;
+use crate::input::{TEXT_LIMIT, read_input};
+use crate::runs::run_call;
+use crate::serving::End;
 use crate::stops::Stop;
-use crate::texts::run_text;
 use crate::tool_stops::ToolStop;
-use crate::words::{Asked, Command, Flags, entry_asked, read_words};
+use crate::words::{Asked, Command, entry_asked, read_words};
 use aio_base::{Gate, Sink, Source};
 use std::alloc::{AllocError, Global};
 use std::sync::Wait;
 use std::thread::Threads;
-use straight_core::{Core, Entry, Straight, straight_replays_mean};
+use step_core::Entry;
 
 /// What `run` answers: its exit status, the journal of the run, and why there is no end of a run,
 /// or why it wasn't written.
-#[derive(Debug, Drop)]
+#[derive(Drop)]
 pub struct RunEnd {
     pub status: u8,
     pub journal: Vec<Entry>,
@@ -46,8 +44,7 @@ pub fn run<R: Threads + Wait + Sync, S: Source, K: Sink, G: Gate + Sync>(
     sink: &mut K,
     _gate: &G,
 ) -> RunEnd
-    ensures status { result.status ≡ status_of result.stop }
-    ensures answer { let given : Given = record {
+    ensures { let given : Given = record {
       words = map string_bytes words.now;
       source = record {
         left = S.left source.old;
@@ -62,17 +59,16 @@ pub fn run<R: Threads + Wait + Sync, S: Source, K: Sink, G: Gate + Sync>(
           faults = K.faults sink.old;
           faults_after = K.faults sink.new;
         } in
-        Answers given gave result.journal.items result.stop }
+        Answers given gave result.journal.items result.status result.stop }
 {
     let read = read_words(alloc, words);
     let mut journal = Vec::new(alloc);
     let told = tell(alloc, read, source, &mut journal);
     let written = write(alloc, sink, entry_asked(words), &told);
-    let stop = stop_after(stop_in(&told), written);
     RunEnd {
-        status: Stop::status(stop),
+        status: status_after(status_of(&told), written),
         journal,
-        stop,
+        stop: stop_after(stop_in(&told), written),
     }
 }
 
@@ -81,7 +77,7 @@ fn write<K: Sink>(
     alloc: Global,
     sink: &mut K,
     entry: &[u8],
-    told: &Result<Vec<u8>, Stop>,
+    told: &Result<End, Stop>,
 ) -> Written
     ensures { let gave : Gave = record {
       taken = K.taken sink.old;
@@ -89,16 +85,25 @@ fn write<K: Sink>(
       faults = K.faults sink.old;
       faults_after = K.faults sink.new;
     } in
-        MatchResult told.now (λ text. IsWritten gave text.items result) (λ stop. IsWritten gave (stop_text entry.now stop) result) }
+        MatchResult told.now (λ end. IsWritten gave end.text.items result) (λ stop. IsWritten gave (stop_text entry.now stop) result) }
 {
     match told {
-        Ok(text) => write_text(sink, text.as_slice()),
+        Ok(end) => write_text(sink, end.text.as_slice()),
         Err(stop) => write_cause(alloc, sink, entry, ToolStop::Shared(*stop)),
     }
 }
 
-fn stop_in(told: &Result<Vec<u8>, Stop>) -> Option<Stop>
-    ensures { MatchResult told.now (λ text. result ≡ None) (λ stop. result ≡ Some stop) }
+fn status_of(told: &Result<End, Stop>) -> u8
+    ensures { MatchResult told.now (λ end. result ≡ end.status) (λ stop. result ≡ stop_status stop) }
+{
+    match told {
+        Ok(end) => end.status,
+        Err(stop) => stop.status(),
+    }
+}
+
+fn stop_in(told: &Result<End, Stop>) -> Option<Stop>
+    ensures { MatchResult told.now (λ end. result ≡ None) (λ stop. result ≡ Some stop) }
 {
     match told {
         Ok(_) => None,
@@ -116,14 +121,15 @@ fn stop_after(answer: Option<Stop>, written: Written) -> Option<Stop>
     }
 }
 
-/// What these words are told: the text of the run's end, or why there is none.
+/// What these words are told: the end of the run, or why there is none.
 fn tell<S: Source>(
     alloc: Global,
     read: Result<Option<Asked>, AllocError>,
     source: &mut S,
     journal: &mut Vec<Entry>,
-) -> Result<Vec<u8>, Stop>
-    requires { journal.old.items ≡ [] }
+) -> Result<End, Stop>
+    requires bounds { IfOk read (λ asked. IfSome asked (λ a. AreBounds a.bounds)) }
+    requires empty { journal.old.items ≡ [] }
     ensures { (words : List (List ℕ)) → IfOk read.entry (λ asked. option_map seen asked ≡ asked_of words) →
         let given : Given = record {
           words = words;
@@ -134,7 +140,7 @@ fn tell<S: Source>(
             faults_after = S.faults source.new;
           };
         } in
-        MatchResult result (λ text. Ends given journal.new.items text.items) (λ stop. Causes given journal.new.items stop) }
+        MatchResult result (λ end. Ends given journal.new.items end.status end.text.items) (λ stop. Causes given journal.new.items stop) }
 {
     match read {
         Ok(Some(asked)) => match asked.command {
@@ -154,8 +160,9 @@ fn tell_run<S: Source>(
     asked: Asked,
     source: &mut S,
     journal: &mut Vec<Entry>,
-) -> Result<Vec<u8>, Stop>
-    requires { journal.old.items ≡ [] }
+) -> Result<End, Stop>
+    requires bounds { AreBounds asked.bounds }
+    requires empty { journal.old.items ≡ [] }
     ensures { (words : List (List ℕ)) → AsksFor Run words (seen asked.entry) →
         let given : Given = record {
           words = words;
@@ -166,44 +173,14 @@ fn tell_run<S: Source>(
             faults_after = S.faults source.new;
           };
         } in
-        MatchResult result (λ text. Ends given journal.new.items text.items) (λ stop. Causes given journal.new.items stop) }
+        MatchResult result (λ end. Ends given journal.new.items end.status end.text.items) (λ stop. Causes given journal.new.items stop) }
 {
     let text = match read_input(alloc, source, TEXT_LIMIT) {
         Ok(text) => text,
         Err(stop) => return Err(stop),
     };
-    match read_code(alloc, &text, asked) {
-        Ok(code) => run_code(alloc, &code, asked.flags, journal),
+    match read_call(alloc, &text, asked) {
+        Ok(loaded) => run_call(alloc, &loaded, asked.bounds, asked.flags, journal),
         Err(stop) => Err(stop),
-    }
-}
-
-/// Runs a function's code, and makes the text of the run's end.
-fn run_code(
-    alloc: Global,
-    code: &Straight,
-    flags: Flags,
-    journal: &mut Vec<Entry>,
-) -> Result<Vec<u8>, Stop>
-    requires { journal.old.items ≡ [] }
-    ensures { (entry : TheFunc) → code.now ≡ straight_of entry →
-        MatchResult result (λ text. Finishes entry flags journal.new.items text.items) (λ stop. RunStops entry journal.new.items stop) }
-{
-    let Ok(mut core) = Core::start(alloc, code) else {
-        return Err(Stop::OutOfMemory);
-    };
-    match drive(alloc, &mut core, journal) {
-        Ok(Outcome::Finished) => {
-            straight_replays_mean();
-            match run_text(alloc, flags, &core, journal.as_slice()) {
-                Ok(text) => Ok(text),
-                Err(_) => Err(Stop::OutOfMemory),
-            }
-        }
-        Ok(Outcome::Short { parked }) => Err(Stop::Short { parked }),
-        Ok(Outcome::Spent) => Err(Stop::Spent {
-            entries: ENTRY_LIMIT,
-        }),
-        Err(_) => Err(Stop::OutOfMemory),
     }
 }

@@ -5,10 +5,10 @@ ghost use Rattle.std.specs.String.{string_bytes};
 ghost use Rattle.aio_base.specs.Whole.{Told};
 ghost use Rattle.async_cli.specs.Words.{seen, asked_of, entry_asked as name_asked};
 ghost use Rattle.async_cli.specs.Answers.{Given, Gave, IsWritten};
-ghost use Rattle.async_cli.specs.Stops.{tool_status, tool_text};
-ghost use Rattle.async_cli.specs.Tools.{ToolAnswers, ToolOwes, CommandEnds, CommandCauses, status_after};
+ghost use Rattle.async_cli.specs.Stops.{status_after, tool_status, tool_text};
+ghost use Rattle.async_cli.specs.Tools.{ToolAnswers, ToolOwes, CommandEnds, CommandCauses};
 
-use crate::answering::{Written, write_cause, write_text};
+use crate::answering::{Written, status_after, write_cause, write_text};
 use crate::checks::tell_check;
 use crate::replays::tell_replay;
 use crate::sources::tell_source;
@@ -88,7 +88,7 @@ fn serve<S: Source>(alloc: Global, asked: Asked, source: &mut S) -> Result<End, 
     match asked.command {
         Command::Check => done(tell_check(alloc, source)),
         Command::Source => tell_source(alloc, asked, source),
-        Command::Replay => done(tell_replay(alloc, asked, source)),
+        Command::Replay => tell_replay(alloc, asked, source),
         Command::Run => Err(ToolStop::Shared(Stop::Words)),
     }
 }
@@ -129,15 +129,5 @@ fn write<K: Sink>(
     match told {
         Ok(end) => write_text(sink, end.text.as_slice()),
         Err(stop) => write_cause(alloc, sink, entry, *stop),
-    }
-}
-
-fn status_after(status: u8, written: Written) -> u8
-    ensures { result ≡ status_after status written }
-{
-    match written {
-        Written::Whole => status,
-        Written::Broken { .. } => 8,
-        Written::NoMemory => 9,
     }
 }

@@ -4,8 +4,9 @@ ghost use Rattle.std.specs.Prelude.{◌≡◌, ℕ, Option, MatchResult, IfOk};
 ghost use Rattle.run_report.specs.Source as spec;
 ghost use Rattle.async_cli.specs.declared.stops.Stop.TheVariants.{OutOfMemory};
 ghost use Rattle.aio_base.specs.Whole.{Told};
+ghost use Rattle.async_cli.specs.Answers.{EntryStops};
 ghost use Rattle.async_cli.specs.Words.{seen};
-ghost use Rattle.async_cli.specs.Sources.{IsRace, IsRun, RunFails, IsReported, SourceEnds, SourceCauses};
+ghost use Rattle.async_cli.specs.Sources.{IsRace, IsRun, IsReported, SourceEnds, SourceCauses};
 
 use crate::input::{TEXT_LIMIT, args_said, entry_number, read_input, read_module};
 use crate::serving::End;
@@ -48,7 +49,7 @@ pub fn tell_source<S: Source>(alloc: Global, asked: Asked, source: &mut S) -> Re
 
 /// Runs the entry that is asked for, and reports the run.
 fn run_source(alloc: Global, verified: &Verified, asked: Asked) -> Result<End, Stop>
-    ensures { MatchResult result (λ end. IsReported verified.now.program (seen asked.entry) end.status end.text.items) (λ stop. RunFails verified.now.program (seen asked.entry) stop) }
+    ensures { MatchResult result (λ end. IsReported verified.now.program (seen asked.entry) end.status end.text.items) (λ stop. EntryStops verified.now.program (seen asked.entry) stop) }
 {
     match evaluate_asked(alloc, verified, asked) {
         Ok(run) => report(alloc, verified.module(), &run),
@@ -58,7 +59,7 @@ fn run_source(alloc: Global, verified: &Verified, asked: Asked) -> Result<End, S
 
 /// The run of the entry that is asked for.
 fn evaluate_asked(alloc: Global, verified: &Verified, asked: Asked) -> Result<SourceRun, Stop>
-    ensures { MatchResult result (λ run. IsRun verified.now.program (seen asked.entry) run.end run.trace.entries) (λ stop. RunFails verified.now.program (seen asked.entry) stop) }
+    ensures { MatchResult result (λ run. IsRun verified.now.program (seen asked.entry) run.end run.trace.entries) (λ stop. EntryStops verified.now.program (seen asked.entry) stop) }
 {
     let number = match entry_number(verified, asked.entry) {
         Ok(number) => number,

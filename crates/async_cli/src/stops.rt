@@ -1,7 +1,7 @@
 //! Why a run ended without an end, with the status and the text of each answer.
 
 ghost use Rattle.std.specs.Prelude.{◌≡◌, ◌++◌, OnOk, codes, decimal};
-ghost use Rattle.async_cli.specs.Stops.{status_of, stop_text, refusal, at_byte, memory_line, lex_line, limit_name, fault_line, module_line, IsUnfit};
+ghost use Rattle.async_cli.specs.Stops.{limit_stop, stop_status, stop_text, refusal, at_byte, memory_line, lex_line, limit_name, fault_line, module_line, IsUnfit};
 ghost use Rattle.async_cli.specs.Texts.{numbered};
 
 use ir_verify::VerifyKind;
@@ -9,6 +9,7 @@ use mlir_lex::LexFault;
 use mlir_text::{Limited, TextFault};
 use run_report::{push_between, push_numbered};
 use std::alloc::AllocError;
+use step_core::Limit;
 
 /// Why a text gives no module to run.
 #[derive(Clone, Copy, Debug, PartialEq, Eq)]
@@ -115,6 +116,16 @@ pub enum Stop {
     NotYet { op: u32 },
     /// No task is ready, and so many are left.
     Short { parked: u32 },
+    /// So many objects are live, as many as may be, and a task would create one more.
+    Objects { live: u32 },
+    /// So many tasks are live, as many as may be, and a task would launch one more.
+    Tasks { live: u32 },
+    /// So many cells are in use, and a task would allocate more than there may be.
+    Cells { used: u32 },
+    /// A task has so many frames, as many as it may, and would call a function.
+    Stack { depth: u32 },
+    /// A group has as many elements as its size, and a task would add one more.
+    Group { size: u64 },
     /// The journal has as many entries as allowed, and the run isn't finished.
     Spent { entries: u32 },
     /// A write failed after so many bytes of the answer's text.
@@ -134,26 +145,41 @@ impl Stop {
         }
     }
 
-    /// The exit status of an answer: 0 where the run is done, else by its cause.
-    pub fn status(stop: Option<Stop>) -> u8
-        ensures { result ≡ status_of stop }
+    /// That a run would have passed this limit.
+    pub fn of_limit(limit: Limit) -> Stop
+        ensures { result ≡ limit_stop limit }
     {
-        match stop {
-            None => 0,
-            Some(Stop::Words) => 2,
-            Some(
-                Stop::TooLong { .. }
-                | Stop::Module(_)
-                | Stop::NoEntry
-                | Stop::EntryType { .. }
-                | Stop::Args { .. }
-                | Stop::NotYet { .. },
-            ) => 3,
-            Some(Stop::Short { .. }) => 4,
-            Some(Stop::Spent { .. }) => 6,
-            Some(Stop::Read) => 7,
-            Some(Stop::Write { .. }) => 8,
-            Some(Stop::OutOfMemory) => 9,
+        match limit {
+            Limit::Objects { live } => Stop::Objects { live },
+            Limit::Tasks { live } => Stop::Tasks { live },
+            Limit::Cells { used } => Stop::Cells { used },
+            Limit::Stack { depth } => Stop::Stack { depth },
+            Limit::Group { size } => Stop::Group { size },
+        }
+    }
+
+    /// The exit status of the answer.
+    pub fn status(self) -> u8
+        ensures { result ≡ stop_status self }
+    {
+        match self {
+            Stop::Words => 2,
+            Stop::TooLong { .. }
+            | Stop::Module(_)
+            | Stop::NoEntry
+            | Stop::EntryType { .. }
+            | Stop::Args { .. }
+            | Stop::NotYet { .. } => 3,
+            Stop::Short { .. } => 4,
+            Stop::Objects { .. }
+            | Stop::Tasks { .. }
+            | Stop::Cells { .. }
+            | Stop::Stack { .. }
+            | Stop::Group { .. } => 5,
+            Stop::Spent { .. } => 6,
+            Stop::Read => 7,
+            Stop::Write { .. } => 8,
+            Stop::OutOfMemory => 9,
         }
     }
 
@@ -185,6 +211,15 @@ impl Stop {
             Stop::Short { parked } => {
                 push_numbered(text, "stopped: parked tasks ", u64::from(parked), "\n")
             }
+            Stop::Objects { live } => {
+                push_numbered(text, "stopped: objects ", u64::from(live), "\n")
+            }
+            Stop::Tasks { live } => push_numbered(text, "stopped: tasks ", u64::from(live), "\n"),
+            Stop::Cells { used } => push_numbered(text, "stopped: cells ", u64::from(used), "\n"),
+            Stop::Stack { depth } => {
+                push_numbered(text, "stopped: frames ", u64::from(depth), "\n")
+            }
+            Stop::Group { size } => push_numbered(text, "stopped: group is full at ", size, "\n"),
             Stop::Spent { entries } => {
                 push_numbered(text, "stopped: entries ", u64::from(entries), "\n")
             }

@@ -1,61 +1,34 @@
-//! The texts of answers.
+//! The text and the status of a run's end.
 
-ghost use Rattle.std.specs.Prelude.{◌≡◌, ◌++◌, [], OnOk, IfOk, codes, if◌then◌else◌};
-ghost use Rattle.straight_journal.specs.Lines.{journal_lines};
-ghost use Rattle.std.specs.Option.{option_copied};
-ghost use Rattle.async_cli.specs.Texts.{end_lines, made_line, steps_line, run_text};
+ghost use Rattle.std.specs.Prelude.{◌≡◌, ◌++◌, ◌<◌, ◌^◌, [], length, OnOk, IfOk, codes, if◌then◌else◌, Some, None};
+ghost use Rattle.run_journal.specs.Lines.{journal_lines};
+ghost use Rattle.async_cli.specs.Texts.{end_status, run_text};
 
 use crate::words::Flags;
-use run_report::{push_numbered, push_results};
+use run_journal::push_journal;
+use run_report::{Notes, end_text};
 use std::alloc::{AllocError, Global};
-use straight_core::{Core, End, Entry};
-use straight_journal::push_journal;
+use step_core::{Counts, End, Entry};
 
-/// Adds the line of what a run made.
-pub fn push_made(text: &mut Vec<u8>, tasks: u32, objects: u32) -> Result<(), AllocError>
-    ensures { OnOk result (text.new.items ≡ text.old.items ++ made_line tasks objects) }
-{
-    push_numbered(text, "tasks ", u64::from(tasks), "")?;
-    push_numbered(text, ", objects ", u64::from(objects), "\n")
-}
-
-/// Adds the line of steps and entries.
-pub fn push_steps(text: &mut Vec<u8>, steps: u64, entries: u64) -> Result<(), AllocError>
-    ensures { OnOk result (text.new.items ≡ text.old.items ++ steps_line steps entries) }
-{
-    push_numbered(text, "steps ", steps, "")?;
-    push_numbered(text, ", entries ", entries, "\n")
-}
-
-fn push_end(text: &mut Vec<u8>, end: Option<&End>) -> Result<(), AllocError>
-    ensures { OnOk result (text.new.items ≡ text.old.items ++ end_lines (option_copied end.entry)) }
+/// The exit status of an end.
+pub fn end_status(end: &End) -> u8
+    ensures { result ≡ end_status end.now }
 {
     match end {
-        None => Ok(()),
-        Some(
-            End::Done {
-                results,
-                buffers: _,
-            },
-        ) => push_results(text, results.as_slice()),
-        Some(End::Failed { op }) => {
-            push_numbered(text, "failed at operation ", u64::from(*op), ": \n")
-        }
+        End::Done { .. } => 0,
+        End::Failed { .. } => 1,
     }
 }
 
-fn push_asked_steps(
-    text: &mut Vec<u8>,
-    flags: Flags,
-    steps: u64,
-    entries: u64,
-) -> Result<(), AllocError>
-    ensures { OnOk result (text.new.items ≡ text.old.items ++ (if flags.steps then steps_line steps entries else [])) }
+/// How many entries a journal has, if that is asked for.
+fn asked_entries(flags: Flags, journal: &[Entry]) -> Option<u32>
+    requires { length journal.now < 2 ^ 32 }
+    ensures { result ≡ (if flags.steps then Some (length journal.now) else None) }
 {
     if flags.steps {
-        push_steps(text, steps, entries)
+        Some(journal.len() as u32)
     } else {
-        Ok(())
+        None
     }
 }
 
@@ -80,17 +53,16 @@ fn push_asked_journal(text: &mut Vec<u8>, flags: Flags, journal: &[Entry]) -> Re
 /// The text of a run's end, with what the flags ask for.
 pub fn run_text(
     alloc: Global,
+    notes: &Notes,
     flags: Flags,
-    core: &Core,
+    end: &End,
+    counts: &Counts,
     journal: &[Entry],
 ) -> Result<Vec<u8>, AllocError>
-    ensures { IfOk result (λ text. text.items ≡ run_text flags core.now journal.now) }
+    requires { length journal.now < 2 ^ 32 }
+    ensures { IfOk result (λ text. text.items ≡ run_text notes.now flags end.now counts.now journal.now) }
 {
-    let mut text = Vec::new(alloc);
-    let counts = core.counts();
-    push_end(&mut text, core.end())?;
-    push_made(&mut text, counts.tasks, counts.objects)?;
-    push_asked_steps(&mut text, flags, counts.steps, journal.len() as u64)?;
+    let mut text = end_text(alloc, notes, end, counts, asked_entries(flags, journal))?;
     push_asked_journal(&mut text, flags, journal)?;
     Ok(text)
 }

@@ -5,13 +5,13 @@ ghost use Rattle.async_cli.specs.Stops.{tool_status, tool_text, why_not};
 ghost use Rattle.async_cli.specs.Texts.{numbered};
 
 use crate::stops::Stop;
+use run_journal::TaskLook;
 use run_report::push_numbered;
 use std::alloc::AllocError;
-use straight_core::Entry;
-use straight_journal::TaskLook;
+use step_core::Entry;
 
 /// Why a command that waits for nothing gave no other answer.
-#[derive(Clone, Copy, Debug, PartialEq, Eq)]
+#[derive(Clone, Copy, PartialEq, Eq)]
 pub enum ToolStop {
     /// A cause that `run` has too.
     Shared(Stop),
@@ -65,7 +65,7 @@ impl ToolStop {
         ensures { result ≡ tool_status self }
     {
         match self {
-            ToolStop::Shared(stop) => Stop::status(Some(stop)),
+            ToolStop::Shared(stop) => stop.status(),
             ToolStop::BadLine { .. } => 3,
             ToolStop::NotARun { .. } => 11,
             ToolStop::Unfinished { .. } => 6,

@@ -1,9 +1,9 @@
 //! The words of a call: a command, and options in any order, each at most once.
 
-ghost use Rattle.std.specs.Prelude.{◌≡◌, is_some, option_and_then, map, option_map, codes, IfOk};
+ghost use Rattle.std.specs.Prelude.{◌≡◌, ◌≤◌, is_some, option_and_then, map, option_map, codes, IfOk, IfSome};
 ghost use Rattle.std.specs.Option.{option_copied};
 ghost use Rattle.std.specs.String.{string_bytes};
-ghost use Rattle.async_cli.specs.Words.{command_of, has_front, behind, is_digit, number_behind, fuel_of, is_option, args_of, are_options, count_of, value_of, stand_once, are_allowed, flags_in, entry_in, args_text, fuel_in, seen, asked_of, entry_asked};
+ghost use Rattle.async_cli.specs.Words.{command_of, has_front, behind, is_digit, number_behind, number_of, sets_number, is_option, args_of, are_options, count_of, value_of, stand_once, are_allowed, flags_in, entry_in, args_text, number_in, fuel_in, bounds_in, AreBounds, seen, asked_of, entry_asked};
 
 use arguments::{ArgsBad, read_bytes};
 use std::alloc::{AllocError, Global};
@@ -30,6 +30,15 @@ pub struct Flags {
     pub journal: bool,
 }
 
+/// How much a run may have.
+#[derive(Clone, Copy, Debug, PartialEq, Eq)]
+pub struct Bounds {
+    /// The most objects that may be live at once.
+    pub objects: u32,
+    /// The most entries of the journal.
+    pub entries: u32,
+}
+
 /// A command and its options.
 #[derive(Clone, Copy)]
 pub struct Asked<'a> {
@@ -40,15 +49,23 @@ pub struct Asked<'a> {
     pub args: &'a [u8],
     /// How many operations may begin where a module is run in the order of its text.
     pub fuel: u32,
+    pub bounds: Bounds,
     pub flags: Flags,
 }
 
 /// The most fuel that can be asked for.
 const MOST_FUEL: u32 = 16_777_216;
 
+/// The most live objects that can be asked for.
+const MOST_OBJECTS: u32 = 65_536;
+
+/// The most entries that can be asked for.
+const MOST_ENTRIES: u32 = 16_777_216;
+
 /// What the words of a call ask for.
 pub fn read_words<'a>(alloc: Global, words: &'a [String]) -> Result<Option<Asked<'a>>, AllocError>
-    ensures { IfOk result (λ asked. option_map seen asked ≡ asked_of (map string_bytes words.entry.now)) }
+    ensures asked { IfOk result (λ asked. option_map seen asked ≡ asked_of (map string_bytes words.entry.now)) }
+    ensures bounds { IfOk result (λ asked. IfSome asked (λ a. AreBounds a.bounds)) }
 {
     let Some((first, others)) = words.split_first() else {
         return Ok(None);
@@ -64,6 +81,7 @@ pub fn read_words<'a>(alloc: Global, words: &'a [String]) -> Result<Option<Asked
         entry: entry_in(others),
         args: args_in(others),
         fuel: fuel_in(others),
+        bounds: bounds_in(others),
         flags: flags_in(others),
     }))
 }
@@ -115,9 +133,11 @@ fn is_digit(byte: u8) -> bool
     byte >= b'0' && byte <= b'9'
 }
 
-/// The number that the digits write, where it is at most the most fuel.
-fn read_number(bytes: &[u8]) -> Option<u32>
-    ensures { result ≡ number_behind 0 bytes.now }
+/// The number that the digits write, where it is at most the most.
+fn read_digits(bytes: &[u8], most: u32) -> Option<u32>
+    requires { most ≤ 16777216 }
+    ensures number { result ≡ number_behind most 0 bytes.now }
+    ensures within { IfSome result (λ n. n ≤ most) }
 {
     let mut number = 0u32;
     for byte in bytes {
@@ -125,7 +145,7 @@ fn read_number(bytes: &[u8]) -> Option<u32>
             return None;
         }
         let longer = number * 10 + u32::from(*byte - b'0');
-        if longer > MOST_FUEL {
+        if longer > most {
             return None;
         }
         number = longer;
@@ -133,23 +153,28 @@ fn read_number(bytes: &[u8]) -> Option<u32>
     Some(number)
 }
 
-fn read_fuel(bytes: &[u8]) -> Option<u32>
-    ensures { result ≡ fuel_of bytes.now }
+/// The number that a value says, from 1 to the most.
+fn read_number(bytes: &[u8], most: u32) -> Option<u32>
+    requires { most ≤ 16777216 }
+    ensures number { result ≡ number_of most bytes.now }
+    ensures within { IfSome result (λ n. n ≤ most) }
 {
     if bytes.is_empty() {
         return None;
     }
-    match read_number(bytes) {
+    match read_digits(bytes, most) {
         Some(0) | None => None,
         Some(number) => Some(number),
     }
 }
 
-fn is_fuel(word: &[u8]) -> bool
-    ensures { result ≡ is_some (option_and_then fuel_of (behind (codes "--fuel=") word.now)) }
+/// Whether the word is an option of this beginning, with such a number.
+fn sets_number(word: &[u8], front: &[u8], most: u32) -> bool
+    requires { most ≤ 16777216 }
+    ensures { result ≡ sets_number front.now most word.now }
 {
-    match behind(word, b"--fuel=") {
-        Some(value) => read_fuel(value).is_some(),
+    match behind(word, front) {
+        Some(value) => read_number(value, most).is_some(),
         None => false,
     }
 }
@@ -180,7 +205,9 @@ fn is_option(alloc: Global, word: &[u8]) -> Result<bool, AllocError>
     if word == b"--steps".as_slice()
         || word == b"--journal".as_slice()
         || has_front(word, b"--entry=")
-        || is_fuel(word)
+        || sets_number(word, b"--fuel=", MOST_FUEL)
+        || sets_number(word, b"--objects=", MOST_OBJECTS)
+        || sets_number(word, b"--entries=", MOST_ENTRIES)
     {
         return Ok(true);
     }
@@ -233,6 +260,8 @@ fn stand_once(words: &[String]) -> bool
         && count_of(words, b"--journal") < 2
         && count_of(words, b"--entry=") < 2
         && count_of(words, b"--fuel=") < 2
+        && count_of(words, b"--objects=") < 2
+        && count_of(words, b"--entries=") < 2
         && count_of(words, b"--args=") < 2
 }
 
@@ -271,11 +300,34 @@ fn args_in<'a>(words: &'a [String]) -> &'a [u8]
     }
 }
 
+/// The number behind such a beginning; else this one.
+fn number_in(words: &[String], front: &[u8], most: u32, otherwise: u32) -> u32
+    requires most { most ≤ 16777216 }
+    requires otherwise { otherwise ≤ most }
+    ensures number { result ≡ number_in front.now most otherwise (map string_bytes words.now) }
+    ensures within { result ≤ most }
+{
+    match value_of(words, front) {
+        Some(value) => match read_number(value, most) {
+            Some(number) => number,
+            None => otherwise,
+        },
+        None => otherwise,
+    }
+}
+
 fn fuel_in(words: &[String]) -> u32
     ensures { result ≡ fuel_in (map string_bytes words.now) }
 {
-    match value_of(words, b"--fuel=") {
-        Some(value) => read_fuel(value).unwrap_or(1_000_000),
-        None => 1_000_000,
+    number_in(words, b"--fuel=", MOST_FUEL, 1_000_000)
+}
+
+fn bounds_in(words: &[String]) -> Bounds
+    ensures bounds { result ≡ bounds_in (map string_bytes words.now) }
+    ensures within { AreBounds result }
+{
+    Bounds {
+        objects: number_in(words, b"--objects=", MOST_OBJECTS, 4_096),
+        entries: number_in(words, b"--entries=", MOST_ENTRIES, 4_194_304),
     }
 }

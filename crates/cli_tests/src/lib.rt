@@ -18,6 +18,10 @@ mod reader;
 #[cfg(test)]
 mod replays;
 #[cfg(test)]
+mod rows;
+#[cfg(test)]
 mod runs;
+#[cfg(test)]
+mod shuffles;
 #[cfg(test)]
 mod sources;

@@ -2,12 +2,12 @@
 use crate::harness::{answer, words_of};
 use aio_base::{MemSink, MemSource, OpenGate};
 use async_cli::run;
+use run_journal::push_journal;
 use std::alloc::{AllocError, Global};
 use std::process::Abort;
 use std::sync::Wait;
 use std::test::Fail;
 use std::thread::Threads;
-use straight_journal::push_journal;
 
 fn assert_answer<R: Abort + Threads + Wait + Sync>(
     rt: &R,

@@ -6,9 +6,11 @@ const FINISHED: &str = r#"
 $ replay
 func.func @main() { %t = async.execute { async.yield } return }
 -- journal
-0 0
-0 0
-1 0
+0 1
+0 3
+0 3
+1 1
+1 3
 
 = 0
 tasks 1, objects 1
@@ -16,9 +18,11 @@ tasks 1, objects 1
 $ replay
 func.func @main() { %t = async.execute { async.yield } return }
 -- journal
-0 0
-1 0
-0 0
+0 1
+0 3
+1 1
+0 3
+1 3
 
 = 0
 tasks 1, objects 1
@@ -26,18 +30,61 @@ tasks 1, objects 1
 $ replay --journal
 func.func @main() { %t = async.execute { async.yield } async.await %t : !async.token return }
 -- journal
+0 1
+0 3
+0 3
+1 1
+1 3
 0 0
-0 0
-1 0
-0 0
+0 1
 
 = 0
 tasks 1, objects 1
 -- journal
+0 1
+0 3
+0 3
+1 1
+1 3
 0 0
+0 1
+
+$ replay --steps
+func.func @main() -> i64 { %t, %v = async.execute -> !async.value<i64> { %c = arith.constant 7 : i64 async.yield %c : i64 } %r = async.await %v : !async.value<i64> return %r : i64 }
+-- journal
+0 1
 0 0
+0 3
+0 3
+1 2
 1 0
+1 0
+1 3
 0 0
+0 1
+0 0
+
+= 0
+result 0: 7
+tasks 1, objects 2
+steps 24, entries 11
+
+$ replay
+func.func @main(%c: i1) { cf.assert %c, "no" return }
+-- journal
+0 1
+
+= 3
+refused: argument 0
+
+$ replay --args=false
+func.func @main(%c: i1) { cf.assert %c, "no" return }
+-- journal
+0 2
+
+= 1
+failed at operation 2: no
+tasks 0, objects 0
 
 $ replay --journal --steps
 func.func @main() -> i64 { %a = arith.constant 42 : i64 return %a : i64 }
@@ -64,12 +111,13 @@ refused: entry 0 names task 1, which is not there
 $ replay
 func.func @main() { %t = async.execute { async.yield } async.await %t : !async.token return }
 -- journal
-0 0
-0 0
+0 1
+0 3
+0 3
 0 0
 
 = 11
-refused: entry 2 names task 0, which is parked
+refused: entry 3 names task 0, which is parked
 
 $ replay
 func.func @main() -> i64 { %a = arith.constant 42 : i64 return %a : i64 }
@@ -82,19 +130,45 @@ refused: entry 0 names task 0, which has 1 local steps
 $ replay
 func.func @main() { %t = async.execute { async.yield } return }
 -- journal
-0 0
-0 0
-1 0
+0 1
+0 3
+0 3
+1 1
+1 3
 1 0
 
 = 11
-refused: entry 3 names task 1, which is not there
+refused: entry 5 names task 1, which is not there
+
+$ replay
+func.func @main() { func.call @main() : () -> () return }
+-- journal
+0 1023
+
+= 11
+refused: entry 0 names task 0, which cannot take its step
+
+$ replay
+func.func @main() { func.call @main() : () -> () return }
+-- journal
+0 1022
+
+= 11
+refused: entry 0 names task 0, which has 1023 local steps
+
+$ replay
+func.func @main() { %z = arith.constant 0 : index scf.parallel (%i) = (%z) to (%z) step (%z) { } return }
+-- journal
+x
+
+= 3
+refused: NotYet at operation 3
 
 $ replay
 func.func @main() { %t = async.execute { async.yield } return }
 -- journal
-0 0
-0 0
+0 1
+0 3
 
 = 6
 stopped: unfinished after 2 entries

@@ -3,7 +3,7 @@ use crate::harness::{answer, assert_cases, shown, words_of};
 use aio_base::{MemSink, MemSource, OpenGate};
 use async_cli::{run, tool};
 use std::test::Fail;
-use straight_core::Entry;
+use step_core::Entry;
 
 const RUNS: &str = r#"
 $ run
@@ -37,19 +37,24 @@ func.func @main() { %t = async.execute { async.yield } return }
 = 0
 tasks 1, objects 1
 -- journal
-0 0
-0 0
-1 0
+0 1
+0 3
+0 3
+1 1
+1 3
 
 $ run --journal
 func.func @main() { %t = async.execute { async.yield } async.await %t : !async.token return }
 = 0
 tasks 1, objects 1
 -- journal
+0 1
+0 3
+0 3
+1 1
+1 3
 0 0
-0 0
-1 0
-0 0
+0 1
 
 $ check --journal
 func.func @main() { return }
@@ -93,16 +98,6 @@ func.func @main(%a: i64) { return }
 = 3
 refused: argument 0
 
-$ run
-func.func @main() { %a = arith.constant 1 : i8 return }
-= 3
-refused: NotYet at operation 2
-
-$ run
-func.func @main() { %a = arith.constant 1 : i64 %t = async.execute { %b = arith.addi %a, %a : i64 async.yield } return }
-= 3
-refused: NotYet at operation 4
-
 $ run --fuel=16777216 --entry=f
 func.func @main() -> i64 { } func.func @f() { return }
 = 3
@@ -117,11 +112,6 @@ $ run --args=7,2 --entry=q
 func.func @q(%a: i64, %b: i1) { return }
 = 3
 refused: argument 1
-
-$ run --args=7,true --entry=q
-func.func @q(%a: i64, %b: i1) { return }
-= 3
-refused: NotYet at operation 1
 
 $ run --steps --steps
 func.func @main() { return }
@@ -213,9 +203,6 @@ fn gives_the_journal(rt: HostRuntime) -> Result<(), Fail> {
         &OpenGate,
     );
     assert_eq!(rt; (end.status, end.stop), (0, None));
-    assert_eq!(rt;
-        end.journal.as_slice(),
-        [Entry { task: 0, local: 2 }].as_slice()
-    );
+    assert!(rt; end.journal.as_slice() == [Entry { task: 0, local: 2 }].as_slice());
     Ok(())
 }

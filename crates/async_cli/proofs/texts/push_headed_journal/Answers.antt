@@ -1,5 +1,5 @@
 use Rattle.std.proofs.Common.{ap, ◌∙◌, ◌++◌, append_assoc}
-use Rattle.straight_journal.specs.Lines.{journal_lines}
+use Rattle.run_journal.specs.Lines.{journal_lines}
 use Rattle.async_cli.proofs.texts.push_headed_journal.Goals as goal
 
 pub returns : goal.returns

@@ -1,5 +1,0 @@
-pub mod Numbers
-pub mod LineLemmas
-pub mod Bursts
-pub mod BurstLoop
-pub mod Entries

@@ -1,6 +1,0 @@
-pub mod Bytes
-pub mod Lines
-pub mod Faults
-pub mod Laws
-pub mod Replay
-pub mod Growth
