@@ -1,0 +1,13 @@
+pub mod Values
+pub mod Moves
+pub mod Awaits
+pub mod Stays
+pub mod Ends
+pub mod Regions
+pub mod Rows
+pub mod Forms
+pub mod Whole
+pub mod Roots
+pub mod Taking
+pub mod Over
+pub mod Looking
