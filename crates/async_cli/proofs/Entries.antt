@@ -1,5 +1,5 @@
 -- The entry's number is that of a function of the module.
-use Rattle.std.proofs.Common.{◌≡◌, ◌<◌, ℕ, zero, suc, ◌+◌, List, [], ◌∷◌, length, map, Bool, true, false, cond, Result, Ok, Err, MatchResult, slice_get, refl, arith, subst, ap, sym, ◌∙◌, inr, Some, None}
+use Rattle.std.proofs.Common.{◌≡◌, ◌<◌, ℕ, zero, suc, ◌+◌, List, [], ◌∷◌, length, map, Bool, true, false, cond, Result, Ok, Err, MatchResult, slice_get, refl, arith, subst, ap, sym, ◌∙◌, inr, Some}
 use Rattle.std.proofs.lemmas.Option.{none-some}
 use Rattle.std.specs.Str.{bytes_eq}
 use Rattle.ir_forms.specs.declared.ops.Func.{Func}
@@ -183,11 +183,19 @@ pub loads : (program : Module) (asked : Asked) (call : EntryCall) (result : Resu
 loads program asked call (Ok l) names made =
     let c : Call = record { program = program; function = call.function; values = call.values } in
     let entry : held l ≡ record { low = l.low; function = call.function; values = call.values } =
-    ap (λ (e : EntryCall). made_code l.low e) made.call in
-    (c, (refl, (record { names = names; whole = made.whole }, record {
-      code = entry ∙ ap (λ low. made_code low call) made.low;
-      notes = made.notes;
-    })))
+    ap (λ (e : EntryCall). made_code l.low e) made.call in (
+      c,
+      (
+        refl,
+        (
+          record { names = names; whole = made.whole },
+          record {
+            code = entry ∙ ap (λ low. made_code low call) made.low;
+            notes = made.notes;
+          },
+        ),
+      ),
+    )
 loads program asked call (Err s) names made = make_stops program asked call s names made
 
 -- what a module's call makes of its text

@@ -1,11 +1,8 @@
 -- What a run or a replay of a call's code comes to.
-use Rattle.std.proofs.Common.{◌≡◌, ◌<◌, ◌≤◌, ◌^◌, ℕ, zero, suc, List, [], ◌∷◌, length, slice_get, Option, Some, None, IsSome, MatchOption, Result, Ok, Err, refl, sym, ap, subst, ◌∙◌, arith}
+use Rattle.std.proofs.Common.{◌≡◌, ◌<◌, ◌≤◌, ◌^◌, ℕ, zero, suc, List, [], ◌∷◌, length, slice_get, Option, Some, None, IsSome, MatchOption, refl, sym, ap, subst, ◌∙◌, arith}
 use Rattle.ir_forms.specs.declared.args.ArgValue.{ArgValue}
-use Rattle.ir_forms.specs.declared.runs.FuncNo.{FuncNo}
 use Rattle.low_forms.specs.declared.code.LowFunc.{LowFunc}
-use Rattle.low_forms.specs.declared.code.LowModule.{LowModule}
 use Rattle.step_core.specs.declared.ends.Entry.{Entry}
-use Rattle.step_core.specs.declared.limits.Limit.{Limit}
 use Rattle.step_core.specs.declared.limits.Limit.TheVariants as limit
 use Rattle.step_core.specs.declared.limits.Limits.{Limits}
 use Rattle.source_meaning.specs.Values.{maybe}
@@ -17,7 +14,7 @@ use Rattle.step_core.specs.Running.{Running}
 use Rattle.step_core.specs.Runs.{IsFinished, and_then, replay}
 use Rattle.run_journal.specs.declared.faults.ReplayFault.{ReplayFault}
 use Rattle.run_journal.specs.Laws.{ReplaysWithinArePossible}
-use Rattle.run_journal.specs.Replay.{first_fault, HasReplayFault}
+use Rattle.run_journal.specs.Replay.{first_fault}
 use Rattle.run_journal.specs.Within.{replay_within}
 use Rattle.serial_run.specs.declared.outcome.Outcome.{Outcome}
 use Rattle.serial_run.specs.declared.outcome.Outcome.TheVariants as outcome
@@ -30,7 +27,7 @@ use Rattle.async_cli.specs.declared.words.Flags.{Flags}
 use Rattle.async_cli.specs.Texts.{end_status, run_text}
 use Rattle.async_cli.specs.Calls.{Code, Stands}
 use Rattle.async_cli.specs.Replays.{replay_limits, first_bad, IsReplayed, ReplaysTo}
-use Rattle.async_cli.specs.Runs.{start_of, LeadsTo, TellsEnd, Finishes, limits_of, outcome_stop, RunStops}
+use Rattle.async_cli.specs.Runs.{start_of, LeadsTo, TellsEnd, limits_of, outcome_stop, RunStops}
 
 past : (fs : List LowFunc) (k : ℕ) → slice_get fs k ≡ None → length fs ≤ k
 past [] k is = omega arith

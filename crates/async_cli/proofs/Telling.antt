@@ -44,9 +44,16 @@ pub ran : (given : Given) (asked : Asked) (text : List ℕ) (l : Loaded) (journa
     MatchResult result (λ end. Finishes (held l) l.notes asked.flags journal end.status end.text.items)
     (λ stop. RunStops (held l) asked.bounds journal stop) →
     MatchResult result (λ end. Ends given journal end.status end.text.items) (λ stop. Causes given journal stop)
-ran given asked text l journal (Ok end) asks input shown same found runs =
-    (asked, (found.0, (enters given asked text found.0 asks input shown same found.1.0,
-    ends_of found.0 l asked.flags journal end.status end.text.items found.1.1.0 runs)))
+ran given asked text l journal (Ok end) asks input shown same found runs = (
+  asked,
+  (
+    found.0,
+    (
+      enters given asked text found.0 asks input shown same found.1.0,
+      ends_of found.0 l asked.flags journal end.status end.text.items found.1.1.0 runs,
+    ),
+  ),
+)
 ran given asked text l journal (Err stop) asks input shown same found runs =
     Causes.run stop asked found.0 (enters given asked text found.0 asks input shown same found.1.0)
     (subst (λ k. RunStops k asked.bounds journal stop) found.1.1.0.code runs)

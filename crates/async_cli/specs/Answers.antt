@@ -1,5 +1,5 @@
 -- What the commands have in common: what a call reads and writes, and in which order it refuses.
-use Rattle.std.specs.Prelude.{ℕ, ◌≡◌, ◌≤◌, ◌⊎◌, List, [], length, map, slice_get, Option, Some, None, Result, Ok, Err, ⊤}
+use Rattle.std.specs.Prelude.{ℕ, ◌≡◌, ◌≤◌, List, [], length, map, slice_get, Option, Result, Ok, Err, ⊤}
 use Rattle.std.specs.Io.KnownBytes.{Appends}
 use Rattle.aio_base.specs.Faults.{Rose}
 use Rattle.aio_base.specs.Whole.{Told, ReadsWhole, ReadsPast, WritesFront}

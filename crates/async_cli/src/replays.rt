@@ -22,11 +22,7 @@ use std::alloc::Global;
 use step_core::Entry;
 
 /// Reads a module and a journal, replays it, and makes the text of the end.
-pub fn tell_replay<S: Source>(
-    alloc: Global,
-    asked: Asked,
-    source: &mut S,
-) -> Result<End, ToolStop>
+pub fn tell_replay<S: Source>(alloc: Global, asked: Asked, source: &mut S) -> Result<End, ToolStop>
     ensures { let told : Told = record {
       left = S.left source.old;
       left_after = S.left source.new;

@@ -73,12 +73,7 @@ pub fn run<R: Threads + Wait + Sync, S: Source, K: Sink, G: Gate + Sync>(
 }
 
 /// Writes the text of an end, or of the cause why there is none.
-fn write<K: Sink>(
-    alloc: Global,
-    sink: &mut K,
-    entry: &[u8],
-    told: &Result<End, Stop>,
-) -> Written
+fn write<K: Sink>(alloc: Global, sink: &mut K, entry: &[u8], told: &Result<End, Stop>) -> Written
     ensures { let gave : Gave = record {
       taken = K.taken sink.old;
       taken_after = K.taken sink.new;

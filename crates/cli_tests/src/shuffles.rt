@@ -14,7 +14,12 @@ const MODULES: [&str; 3] = [
 ];
 
 // The module's text and these entries, of which those at this place and behind it are exchanged.
-fn exchanged(alloc: Global, module: &str, entries: &[Entry], at: usize) -> Result<Vec<u8>, AllocError> {
+fn exchanged(
+    alloc: Global,
+    module: &str,
+    entries: &[Entry],
+    at: usize,
+) -> Result<Vec<u8>, AllocError> {
     let mut text = module.as_bytes().to_vec(alloc)?;
     text.extend_from_slice(b"-- journal\n")?;
     push_journal(&mut text, &entries[..at])?;
@@ -32,7 +37,14 @@ fn has_one_end_in_other_orders(rt: HostRuntime) -> Result<(), Fail> {
     for module in MODULES {
         let mut source = MemSource::new(module.as_bytes().to_vec(alloc)?, Vec::new(alloc));
         let mut sink = MemSink::new(alloc, 4096, 4096, Vec::new(alloc))?;
-        let end = run(&rt, alloc, words.as_slice(), &mut source, &mut sink, &OpenGate);
+        let end = run(
+            &rt,
+            alloc,
+            words.as_slice(),
+            &mut source,
+            &mut sink,
+            &OpenGate,
+        );
         let told = str::from_utf8(sink.taken()).unwrap_or("");
         let owed = format!(in alloc; "{}\n{told}", end.status)?;
         let mut possible = 0u32;
@@ -45,7 +57,10 @@ fn has_one_end_in_other_orders(rt: HostRuntime) -> Result<(), Fail> {
             if other == owed {
                 possible = possible.saturating_add(1);
             } else {
-                assert!(rt; other.as_str().starts_with("11\nrefused: entry "), "{other}");
+                assert!(rt;
+                    other.as_str().starts_with("11\nrefused: entry "),
+                    "{other}"
+                );
             }
         }
         assert!(rt; possible > 0, "{module}");

@@ -1,4 +1,3 @@
-use Rattle.std.proofs.Common.{inl}
 use Rattle.async_cli.specs.Calls.{held}
 use Rattle.async_cli.proofs.Telling.{journaled}
 use Rattle.async_cli.proofs.replays.tell_journal.Goals as goal

@@ -1,6 +1,5 @@
-use Rattle.std.proofs.Common.{◌≡◌, ◌∙◌, None, Some, arith, subst, sym}
+use Rattle.std.proofs.Common.{◌∙◌, None, arith, subst, sym}
 use Rattle.async_cli.specs.Calls.{held}
-use Rattle.async_cli.specs.Runs.{limits_of, outcome_stop}
 use Rattle.async_cli.proofs.Leading.{Gives, gives, starts_from, stops_at_start}
 use Rattle.async_cli.proofs.runs.run_call.Goals as goal
 
