@@ -1,17 +1,12 @@
 -- Code of structured operations neither saves nor counts.
-use Rattle.std.proofs.Common.{◌≡◌, ℕ, zero, suc, ◌+◌, ◌&&◌, ◌||◌, Bool, true, false, List, [], ◌∷◌, ◌++◌, map, length, Option, Some, None, refl, sym, subst}
+use Rattle.std.proofs.Common.{◌≡◌, ℕ, ◌&&◌, ◌||◌, Bool, true, false, List, [], ◌∷◌, Option, Some, None, refl}
 use Rattle.std.specs.Prelude.{not}
 use Rattle.op_table.specs.declared.kind.OpKind.{OpKind}
 use Rattle.op_table.specs.declared.kind.OpKind.TheVariants.{AsyncCoroSave, AsyncCoroSuspend, AsyncRuntimeResume, AsyncRuntimeAwaitAndResume}
 use Rattle.ir_forms.specs.declared.ops.Attr.{Attr}
 use Rattle.ir_forms.specs.declared.ops.Attr.TheVariants as attr
 use Rattle.ir_forms.specs.declared.ops.Func.{Func}
-use Rattle.ir_forms.specs.declared.ops.Op.{Op, Op-F, roll-Op}
-use Rattle.ir_forms.specs.declared.ops.Op.TheFolds.{fold-roll-Op, fold-roll-Region, ind-Op}
-use Rattle.ir_forms.specs.declared.ops.Region.{Region, Region-F, roll-Region}
-use Rattle.ir_forms.specs.Ops.{ops_of}
 use Rattle.ir_verify.specs.Names.{first_named}
-use Rattle.low_forms.specs.declared.code.Reg.{Reg}
 use Rattle.low_forms.specs.declared.code.LowKind.{LowKind}
 use Rattle.low_forms.specs.declared.code.Instr.{Instr}
 use Rattle.low_forms.specs.declared.code.Term.{Term}
@@ -22,114 +17,26 @@ use Rattle.low_forms.specs.Saves.{is_save, resumes, is_suspend, saves_followed, 
 use Rattle.low_forms.proofs.Words.{and_left, and_right, and_both}
 use Rattle.scf_blocks.specs.declared.role.Role.{Role}
 use Rattle.scf_blocks.specs.declared.role.Role.TheVariants as role
-use Rattle.scf_blocks.specs.declared.body.Failure.{Failure}
-use Rattle.scf_blocks.specs.declared.body.Failure.TheVariants.{Constant, Passed}
-use Rattle.scf_blocks.specs.declared.body.Close.{Close}
-use Rattle.scf_blocks.specs.declared.body.Close.TheVariants.{Returns, Joins, Repeats, Decides}
-use Rattle.scf_blocks.specs.Tree.{Ops, gives, decides, plain, asserts, branches, counts, cycles, calls, tries, awaits, Nested, nested_at, Parts, parts_of, op_before, op_step, region_step, chained, role_of, tree_before, nested_of, tree}
-use Rattle.scf_blocks.specs.Code.{Scope, Code, code_of, block_of, blocks_of, regs_of, failures_of, close, decide, reg_no, block_no, regs, regs_from, operand, with_values, with_vars, low_attr, callee_at, less, cond_br, instr_then, ends_by, fails_of, failure_blocks}
-use Rattle.scf_blocks.specs.Lowered.{lowered_func, func_tree}
+use Rattle.scf_blocks.specs.Tree.{role_of}
+use Rattle.scf_blocks.specs.Code.{low_attr, callee_at}
+use Rattle.scf_blocks.specs.Lowered.{lowered_func}
 use Rattle.block_laws.specs.Laws.{NoneSaved}
-use Rattle.block_laws.proofs.Words.{every_append, every_more}
+use Rattle.block_laws.proofs.Words.{every_more}
+use Rattle.block_laws.proofs.Rows.{Test, Passes, EachPasses, instr_passes, block_passes, blocks_pass}
 
--- ---- kinds
+-- ---- rows
 
 abbrev is_calm : LowKind → Bool
 is_calm kind = not (is_save kind) && (not (resumes kind) && not (is_suspend kind))
 
-abbrev calm_role : Role → Bool
-calm_role (role.Plain kind) = is_calm kind
-calm_role _ = true
-
--- no operation becomes an instruction that saves, resumes or suspends
-each_calm : (kind : OpKind) → calm_role (role_of kind) ≡ true
-each_calm AsyncCoroSave = refl
-each_calm AsyncCoroSuspend = refl
-each_calm AsyncRuntimeResume = refl
-each_calm AsyncRuntimeAwaitAndResume = refl
-each_calm _ = refl
-
-abbrev AllCalm : Ops → Type 0
-AllCalm (gives vs) = Unit {0}
-AllCalm (decides c vs) = Unit {0}
-AllCalm (plain kind a args rs rest) = (is_calm kind ≡ true) × AllCalm rest
-AllCalm (asserts at c rest) = AllCalm rest
-AllCalm (branches c on off rs rest) = AllCalm on × AllCalm off × AllCalm rest
-AllCalm (counts lower upper step inits params body rs rest) = AllCalm body × AllCalm rest
-AllCalm (cycles inits params before passed after rs rest) = AllCalm before × AllCalm after × AllCalm rest
-AllCalm (calls a args rs rest) = AllCalm rest
-AllCalm (tries a args rs rest) = AllCalm rest
-AllCalm (awaits at o rs rest) = AllCalm rest
-
-abbrev EachCalm : List Nested → Type 0
-EachCalm [] = Unit {0}
-EachCalm (n ∷ ns) = AllCalm n.ops × EachCalm ns
-
-calm_at : (ns : List Nested) (k : ℕ) → EachCalm ns → AllCalm (nested_at ns k).ops
-calm_at [] k is = tt
-calm_at (n ∷ ns) zero is = is.0
-calm_at (n ∷ ns) (suc k) is = calm_at ns k is.1
-
-before_calm : (r : Role) (o : Parts) (ns : List Nested) (rest : Ops) → calm_role r ≡ true → EachCalm ns → AllCalm rest → AllCalm (op_before r o ns rest)
-before_calm (role.Plain kind) o ns rest is each calm = (is, calm)
-before_calm role.Assertion o ns rest is each calm = calm
-before_calm role.Choice o ns rest is each calm = (calm_at ns 0 each, calm_at ns 1 each, calm)
-before_calm role.Counted o ns rest is each calm = (calm_at ns 0 each, calm)
-before_calm role.Tested o ns rest is each calm = (calm_at ns 0 each, calm_at ns 1 each, calm)
-before_calm role.Call o ns rest is each calm = calm
-before_calm role.TriedCall o ns rest is each calm = calm
-before_calm role.Await o ns rest is each calm = calm
-before_calm role.End o ns rest is each calm = tt
-before_calm role.Condition o ns rest is each calm = tt
-before_calm role.Nothing o ns rest is each calm = calm
-
--- ---- the tree of operations
-
-abbrev OpCalm : Op → Type 0
-OpCalm op = (rest : Ops) → AllCalm rest → AllCalm (tree_before op rest)
-
-abbrev RegionCalm : Region → Type 0
-RegionCalm region = AllCalm (nested_of region).ops
-
-ops_chained : (ys : List ((op : Op) × OpCalm op)) → AllCalm (chained (map tree_before (map (λ y. y.0) ys)))
-ops_chained [] = tt
-ops_chained (y ∷ ys) = y.1 (chained (map tree_before (map (λ y. y.0) ys))) (ops_chained ys)
-
-regions_each : (ys : List ((region : Region) × RegionCalm region)) → EachCalm (map nested_of (map (λ y. y.0) ys))
-regions_each [] = tt
-regions_each (y ∷ ys) = (y.1, regions_each ys)
-
-made_calm : (x : Op-F Op Region) → EachCalm (map nested_of x.regions) → OpCalm (roll-Op x)
-unfolding tree_before nested_of
-made_calm x each rest calm =
-    subst (λ (f : Ops → Ops). AllCalm (f rest)) (sym (fold-roll-Op (Ops → Ops) Nested op_step region_step x))
-    (before_calm (role_of x.kind) (parts_of x) (map nested_of x.regions) rest (each_calm x.kind) each calm)
-
-held_calm : (x : Region-F Op Region) → AllCalm (chained (map tree_before x.ops)) → RegionCalm (roll-Region x)
-unfolding tree_before nested_of
-held_calm x calm = subst (λ (n : Nested). AllCalm n.ops) (sym (fold-roll-Region (Ops → Ops) Nested op_step region_step x)) calm
-
-op_calm : (op : Op) → OpCalm op
-op_calm = ind-Op OpCalm RegionCalm
-    (λ x y is. made_calm x (subst (λ (z : Op-F Op Region). EachCalm (map nested_of z.regions)) is (regions_each y.regions)))
-    (λ x y is. held_calm x (subst (λ (z : Region-F Op Region). AllCalm (chained (map tree_before z.ops))) is (ops_chained y.ops)))
-
-tree_calm : (ops : List Op) → AllCalm (tree ops)
-tree_calm [] = tt
-tree_calm (op ∷ ops) = op_calm op (tree ops) (tree_calm ops)
-
--- ---- code
+abbrev calm : Test
+calm kind a = is_calm kind && count_is_small a
 
 abbrev calm_instr : Instr → Bool
-calm_instr i = is_calm i.kind && count_is_small i.attr
+calm_instr = instr_passes calm
 
 abbrev calm_block : Block → Bool
-calm_block b = every calm_instr b.instrs && calm_instr b.term.instr
-
-record Calm (c : Code) : Type 0 where
-  instrs : every calm_instr c.instrs ≡ true
-  term : calm_instr c.term.instr ≡ true
-  blocks : every calm_block c.blocks ≡ true
+calm_block = block_passes calm
 
 callee_small : (k : Option ℕ) → count_is_small (callee_at k) ≡ true
 callee_small None = refl
@@ -143,96 +50,46 @@ attr_small funcs (attr.Pred p) = refl
 attr_small funcs (attr.Text text) = refl
 attr_small funcs (attr.Callee name) = callee_small (first_named funcs name)
 
-close_calm : (end : Close) (n : ℕ) (vs : List Reg) → Calm (close end n vs)
-close_calm Returns n vs = record { instrs = refl; term = refl; blocks = refl }
-close_calm (Joins b) n vs = record { instrs = refl; term = refl; blocks = refl }
-close_calm (Repeats h i s) n vs = record { instrs = refl; term = refl; blocks = refl }
-close_calm (Decides a e) n vs = record { instrs = refl; term = refl; blocks = refl }
+abbrev calm_role : Role → Bool
+calm_role (role.Plain kind) = is_calm kind
+calm_role _ = true
 
-decide_calm : (end : Close) (n : ℕ) (c : Reg) (vs : List Reg) → Calm (decide end n c vs)
-decide_calm Returns n c vs = record { instrs = refl; term = refl; blocks = refl }
-decide_calm (Joins b) n c vs = record { instrs = refl; term = refl; blocks = refl }
-decide_calm (Repeats h i s) n c vs = record { instrs = refl; term = refl; blocks = refl }
-decide_calm (Decides a e) n c vs = record { instrs = refl; term = refl; blocks = refl }
+-- no operation becomes an instruction that saves, resumes or suspends
+each_calm : (kind : OpKind) → calm_role (role_of kind) ≡ true
+each_calm AsyncCoroSave = refl
+each_calm AsyncCoroSuspend = refl
+each_calm AsyncRuntimeResume = refl
+each_calm AsyncRuntimeAwaitAndResume = refl
+each_calm _ = refl
 
-block_calm : (params : List Reg) (c : Code) → Calm c → every calm_block (block_of params c) ≡ true
-block_calm params c is = and_both (every calm_instr c.instrs && calm_instr c.term.instr) (every calm_block c.blocks)
-    (and_both (every calm_instr c.instrs) (calm_instr c.term.instr) is.instrs is.term) is.blocks
+passes_calm : (funcs : List Func) (r : Role) → calm_role r ≡ true → Passes calm funcs r
+passes_calm funcs (role.Plain kind) is = λ a. and_both (is_calm kind) (count_is_small (low_attr funcs a)) is (attr_small funcs a)
+passes_calm funcs role.Assertion is = tt
+passes_calm funcs role.Choice is = tt
+passes_calm funcs role.Counted is = tt
+passes_calm funcs role.Tested is = tt
+passes_calm funcs role.Call is = tt
+passes_calm funcs role.TriedCall is = tt
+passes_calm funcs role.Await is = tt
+passes_calm funcs role.End is = tt
+passes_calm funcs role.Condition is = tt
+passes_calm funcs role.Nothing is = tt
 
-three_calm : (X Y Z : Code) (p q r : List Reg) → Calm X → Calm Y → Calm Z → every calm_block (block_of p X ++ (block_of q Y ++ block_of r Z)) ≡ true
-three_calm X Y Z p q r x y z =
-    every_append calm_block (block_of p X) (block_of q Y ++ block_of r Z) (block_calm p X x)
-    (every_append calm_block (block_of q Y) (block_of r Z) (block_calm q Y y) (block_calm r Z z))
-
-module _ (funcs : List Func) where
-  code_calm : (ops : Ops) (b n j : ℕ) (scope : Scope) (end : Close) → AllCalm ops → Calm (code_of funcs ops b n j scope end)
-  code_calm (gives vs) b n j scope end is = close_calm end n (regs scope vs)
-  code_calm (decides c vs) b n j scope end is = decide_calm end n (operand scope c) (regs scope vs)
-  code_calm (plain kind a args rs rest) b n j scope end is =
-      let r = code_calm rest b (n + length rs) j (with_vars rs n scope) end is.1 in
-      record {
-        instrs = and_both (is_calm kind && count_is_small (low_attr funcs a)) (every calm_instr (code_of funcs rest b (n + length rs) j (with_vars rs n scope) end).instrs)
-            (and_both (is_calm kind) (count_is_small (low_attr funcs a)) is.0 (attr_small funcs a)) r.instrs;
-        term = r.term;
-        blocks = r.blocks;
-      }
-  code_calm (asserts at c rest) b n j scope end is =
-      record { instrs = refl; term = refl; blocks = block_calm [] _ (code_calm rest (b + 1) n (j + 1) scope end is) }
-  code_calm (branches c on off rs rest) b n j scope end is =
-      let b2 : ℕ = b + (2 + blocks_of on) in
-      let b3 : ℕ = b + (3 + (blocks_of on + blocks_of off)) in
-      let n3 : ℕ = n + regs_of on + regs_of off in
-      record {
-        instrs = refl;
-        term = refl;
-        blocks = three_calm _ _ _ [] [] (regs_from n3 rs)
-            (code_calm on (b + 1) n j scope (Joins (block_no b3)) is.0)
-            (code_calm off b2 (n + regs_of on) (j + failures_of on) scope (Joins (block_no b3)) is.1)
-            (code_calm rest b3 (n3 + length rs) (j + failures_of on + failures_of off) (with_vars rs n3 scope) end is.2);
-      }
-  code_calm (counts lower upper step inits params body rs rest) b n j scope end is =
-      let n2 : ℕ = n + length params in
-      let n3 : ℕ = n2 + 1 + regs_of body in
-      let b3 : ℕ = b + (3 + blocks_of body) in
-      record {
-        instrs = refl;
-        term = refl;
-        blocks = three_calm (instr_then (less (reg_no n2) (reg_no n) (operand scope upper)) (ends_by (cond_br (reg_no n2) (block_no (b + 2)) (block_no b3) []) [])) _ _ (regs_from n params) [] []
-            (record { instrs = refl; term = refl; blocks = refl })
-            (code_calm body (b + 2) (n2 + 1) j (with_vars params n scope) (Repeats (block_no (b + 1)) (reg_no n) (operand scope step)) is.0)
-            (code_calm rest b3 (n3 + 1) (j + failures_of body) (with_values rs (n + 1) scope) end is.1);
-      }
-  code_calm (cycles inits params before passed after rs rest) b n j scope end is =
-      let b2 : ℕ = b + (2 + blocks_of before) in
-      let b3 : ℕ = b + (3 + (blocks_of before + blocks_of after)) in
-      let n2 : ℕ = n + length params + regs_of before in
-      let n3 : ℕ = n2 + length passed + regs_of after in
-      record {
-        instrs = refl;
-        term = refl;
-        blocks = three_calm _ _ _ (regs_from n params) (regs_from n2 passed) (regs_from n3 rs)
-            (code_calm before (b + 1) (n + length params) j (with_vars params n scope) (Decides (block_no b2) (block_no b3)) is.0)
-            (code_calm after b2 (n2 + length passed) (j + failures_of before) (with_vars passed n2 scope) (Joins (block_no (b + 1))) is.1)
-            (code_calm rest b3 (n3 + length rs) (j + failures_of before + failures_of after) (with_vars rs n3 scope) end is.2);
-      }
-  code_calm (calls a args rs rest) b n j scope end is =
-      record { instrs = refl; term = attr_small funcs a; blocks = block_calm (regs_from n rs) _ (code_calm rest (b + 1) (n + length rs) (j + 1) (with_vars rs n scope) end is) }
-  code_calm (tries a args rs rest) b n j scope end is =
-      record { instrs = refl; term = attr_small funcs a; blocks = block_calm (regs_from (n + 3) rs) _ (code_calm rest (b + 3) (n + 3 + length rs) j (with_vars rs (n + 3) scope) end is) }
-  code_calm (awaits at o rs rest) b n j scope end is =
-      record { instrs = refl; term = refl; blocks = block_calm (regs_from n rs) _ (code_calm rest (b + 1) (n + length rs) (j + 1) (with_vars rs n scope) end is) }
-
-failures_calm : (m : ℕ) (fs : List Failure) → every calm_block (failure_blocks m fs) ≡ true
-failures_calm m [] = refl
-failures_calm m (Constant at ∷ fs) = failures_calm (m + 1) fs
-failures_calm m (Passed ∷ fs) = failures_calm (m + 1) fs
+all_calm : (funcs : List Func) → EachPasses calm funcs
+all_calm funcs = record {
+  own = λ kind. passes_calm funcs (role_of kind) (each_calm kind);
+  adds = refl;
+  compares = refl;
+  bit = λ b. refl;
+  goes = refl;
+  chooses = refl;
+  called = λ a. attr_small funcs a;
+  waits = refl;
+  returns = refl;
+}
 
 blocks_calm : (funcs : List Func) (f : Func) → every calm_block (lowered_func funcs f).blocks ≡ true
-blocks_calm funcs f =
-    let ops : Ops = func_tree f in
-    every_append calm_block (block_of [] (code_of funcs ops 0 (length f.params) (blocks_of ops + 1) (with_vars f.params 0 []) Returns)) (failure_blocks (length f.params + regs_of ops) (fails_of ops))
-    (block_calm [] _ (code_calm funcs ops 0 (length f.params) (blocks_of ops + 1) (with_vars f.params 0 []) Returns (tree_calm (ops_of f.body))))
-    (failures_calm (length f.params + regs_of ops) (fails_of ops))
+blocks_calm funcs f = blocks_pass calm funcs (all_calm funcs) (record { constant = λ n. refl; ends = refl }) f
 
 -- ---- what calm blocks keep
 
@@ -296,6 +153,6 @@ start_saves (b ∷ bs) is = or_second (not (has_no_save b)) (every has_no_save b
 
 pub none_saved : NoneSaved
 none_saved funcs f =
-    let calm : every calm_block (lowered_func funcs f).blocks ≡ true = blocks_calm funcs f in
+    let is_so : every calm_block (lowered_func funcs f).blocks ≡ true = blocks_calm funcs f in
     let bs : List Block = (lowered_func funcs f).blocks in
-    (refl, every_more calm_block counts_small bs small_count calm, blocks_followed true bs calm, every_more calm_block nowhere_else bs alone_nowhere calm, start_saves bs calm)
+    (refl, every_more calm_block counts_small bs small_count is_so, blocks_followed true bs is_so, every_more calm_block nowhere_else bs alone_nowhere is_so, start_saves bs is_so)

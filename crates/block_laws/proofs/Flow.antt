@@ -29,7 +29,7 @@ use Rattle.block_laws.proofs.Scopes.{names_of, OfRegs, Holds, names_with, of_reg
 
 -- ---- lists of registers
 
-abbrev AllIn : (ℕ → Type 0) → List ℕ → Type 0
+abbrev pub AllIn : (ℕ → Type 0) → List ℕ → Type 0
 AllIn K xs = (r : ℕ) → has r xs ≡ true → K r
 
 same_number : (a b : ℕ) → (a == b) ≡ true → a ≡ b
@@ -38,16 +38,16 @@ same_number a b is = elim (eqb_tells a b) [
   | inr differs ↦ cc
 ]
 
-all_nil : (K : ℕ → Type 0) → AllIn K []
+pub all_nil : (K : ℕ → Type 0) → AllIn K []
 all_nil K r is = cc
 
-all_cons : (K : ℕ → Type 0) (x : ℕ) (xs : List ℕ) → K x → AllIn K xs → AllIn K (x ∷ xs)
+pub all_cons : (K : ℕ → Type 0) (x : ℕ) (xs : List ℕ) → K x → AllIn K xs → AllIn K (x ∷ xs)
 all_cons K x xs here later r is = elim (or_splits (r == x) (has r xs) is) [
   | inl same ↦ subst K (sym (same_number r x same)) here
   | inr more ↦ later r more
 ]
 
-all_append : (K : ℕ → Type 0) (xs ys : List ℕ) → AllIn K xs → AllIn K ys → AllIn K (xs ++ ys)
+pub all_append : (K : ℕ → Type 0) (xs ys : List ℕ) → AllIn K xs → AllIn K ys → AllIn K (xs ++ ys)
 all_append K xs ys front back r is = elim (or_splits (has r xs) (has r ys) (sym (has_append r xs ys) ∙ is)) [
   | inl h ↦ front r h
   | inr h ↦ back r h
@@ -56,18 +56,18 @@ all_append K xs ys front back r is = elim (or_splits (has r xs) (has r ys) (sym 
 has_back : (r : ℕ) (xs ys : List ℕ) → has r ys ≡ true → has r (xs ++ ys) ≡ true
 has_back r xs ys is = has_append r xs ys ∙ or_right (has r xs) (has r ys) is
 
-all_held : (K : ℕ → Type 0) (rs : List Reg) → Holds K rs → AllIn K (numbers rs)
+pub all_held : (K : ℕ → Type 0) (rs : List Reg) → Holds K rs → AllIn K (numbers rs)
 all_held K [] holds = all_nil K
 all_held K (r ∷ rs) holds = all_cons K r.0 (numbers rs) holds.0 (all_held K rs holds.1)
 
-has_from : {A : Type 0} → (n : ℕ) (xs : List A) (r : ℕ) → n ≤ r → r < n + length xs → has r (numbers (regs_from n xs)) ≡ true
+pub has_from : {A : Type 0} → (n : ℕ) (xs : List A) (r : ℕ) → n ≤ r → r < n + length xs → has r (numbers (regs_from n xs)) ≡ true
 has_from n [] r low high = absurd (omega (arith, low, high))
 has_from n (x ∷ xs) r low high = elim (eqb_tells r n) [
   | inl same ↦ or_left (r == n) (has r (numbers (regs_from (n + 1) xs))) same.0
   | inr other ↦ or_right (r == n) (has r (numbers (regs_from (n + 1) xs))) (let ne = other.1 in has_from (n + 1) xs r (omega (arith, low, ne)) (omega (arith, high)))
 ]
 
-from_bounds : {A : Type 0} → (n : ℕ) (xs : List A) → AllIn (λ r. (n ≤ r) × (r < n + length xs)) (numbers (regs_from n xs))
+pub from_bounds : {A : Type 0} → (n : ℕ) (xs : List A) → AllIn (λ r. (n ≤ r) × (r < n + length xs)) (numbers (regs_from n xs))
 from_bounds n [] r is = cc
 from_bounds n (x ∷ xs) r is = elim (or_splits (r == n) (has r (numbers (regs_from (n + 1) xs))) is) [
   | inl same ↦ (let e : r ≡ n = same_number r n same in (omega (arith, e), omega (arith, e)))
@@ -76,15 +76,15 @@ from_bounds n (x ∷ xs) r is = elim (or_splits (r == n) (has r (numbers (regs_f
 
 -- ---- scopes
 
-abbrev regs_in : Scope → List ℕ
+abbrev pub regs_in : Scope → List ℕ
 regs_in scope = map (λ y. y.1.0) scope
 
-of_all : (K : ℕ → Type 0) (scope : Scope) → AllIn K (regs_in scope) → OfRegs K scope
+pub of_all : (K : ℕ → Type 0) (scope : Scope) → AllIn K (regs_in scope) → OfRegs K scope
 of_all K [] all = tt
 of_all K (y ∷ scope) all = (all y.1.0 (has_here y.1.0 (regs_in scope)), of_all K scope (λ r is. all r (or_right (r == y.1.0) (has r (regs_in scope)) is)))
 
 -- the registers of a scope with new values are those of the scope and the new ones
-more_values : (xs : List ValueNo) (n : ℕ) (scope : Scope) → AllIn (λ r. (has r (regs_in scope) ≡ true) ⊎ (has r (numbers (regs_from n xs)) ≡ true)) (regs_in (with_values xs n scope))
+pub more_values : (xs : List ValueNo) (n : ℕ) (scope : Scope) → AllIn (λ r. (has r (regs_in scope) ≡ true) ⊎ (has r (numbers (regs_from n xs)) ≡ true)) (regs_in (with_values xs n scope))
 more_values [] n scope r is = inl is
 more_values (x ∷ xs) n scope r is = elim (more_values xs (n + 1) ((x, reg_no n) ∷ scope) r is) [
   | inl old ↦ elim (or_splits (r == n) (has r (regs_in scope)) old) [
@@ -102,7 +102,7 @@ same_from : (n : ℕ) (xs : List Var) → regs_from n (values_of xs) ≡ regs_fr
 same_from n [] = refl
 same_from n (x ∷ xs) = ap (λ l. reg_no n ∷ l) (same_from (n + 1) xs)
 
-more_vars : (xs : List Var) (n : ℕ) (scope : Scope) → AllIn (λ r. (has r (regs_in scope) ≡ true) ⊎ (has r (numbers (regs_from n xs)) ≡ true)) (regs_in (with_vars xs n scope))
+pub more_vars : (xs : List Var) (n : ℕ) (scope : Scope) → AllIn (λ r. (has r (regs_in scope) ≡ true) ⊎ (has r (numbers (regs_from n xs)) ≡ true)) (regs_in (with_vars xs n scope))
 more_vars xs n scope = subst (λ l. AllIn (λ r. (has r (regs_in scope) ≡ true) ⊎ (has r (numbers l) ≡ true)) (regs_in (with_vars xs n scope))) (same_from n xs) (more_values (values_of xs) n scope)
 
 -- a new value's register is in the scope

@@ -1,4 +1,5 @@
 pub mod Words
+pub mod Rows
 pub mod Calm
 pub mod Scopes
 pub mod Within

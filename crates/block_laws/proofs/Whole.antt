@@ -16,12 +16,12 @@ use Rattle.block_laws.proofs.Splits.{edges_split}
 use Rattle.block_laws.proofs.Flow.{all_assigned}
 
 -- a function of mapped ones is made of one
-record Made (g : Func → LowFunc) (fs : List Func) (k : ℕ) (low : LowFunc) : Type 0 where
-  func : Func
-  at : slice_get fs k ≡ Some func
-  same : g func ≡ low
+pub record Made (g : Func → LowFunc) (fs : List Func) (k : ℕ) (low : LowFunc) : Type 0 where
+  pub func : Func
+  pub at : slice_get fs k ≡ Some func
+  pub same : g func ≡ low
 
-made_of : (g : Func → LowFunc) (fs : List Func) (k : ℕ) (low : LowFunc) → slice_get (map g fs) k ≡ Some low → Made g fs k low
+pub made_of : (g : Func → LowFunc) (fs : List Func) (k : ℕ) (low : LowFunc) → slice_get (map g fs) k ≡ Some low → Made g fs k low
 made_of g [] k low at = cc
 made_of g (f ∷ fs) zero low at = record { func = f; at = refl; same = cc }
 made_of g (f ∷ fs) (suc k) low at =

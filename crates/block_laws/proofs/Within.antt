@@ -57,14 +57,14 @@ named_within (f ∷ funcs) name code le = go (bytes_eq f.name name) (first_named
 append_size : (xs ys : List Ty) → length (xs ++ ys) ≡ length xs + length ys
 append_size xs ys = length-append xs ys
 
-choice_size : (on off : Ops) (rs : List Var) (rest : Ops) → length (types_of on ++ (types_of off ++ (types_in rs ++ types_of rest))) ≡ regs_of on + (regs_of off + (length rs + regs_of rest))
+pub choice_size : (on off : Ops) (rs : List Var) (rest : Ops) → length (types_of on ++ (types_of off ++ (types_in rs ++ types_of rest))) ≡ regs_of on + (regs_of off + (length rs + regs_of rest))
 choice_size on off rs rest =
     append_size (types_of on) (types_of off ++ (types_in rs ++ types_of rest)) ∙ ap (λ k. regs_of on + k) (append_size (types_of off) (types_in rs ++ types_of rest) ∙ ap (λ k. regs_of off + k) (types_before rs (types_of rest)))
 
-turn_size : (params : List Var) (body rest : Ops) (t u : Ty) → length (types_in params ++ t ∷ (types_of body ++ u ∷ types_of rest)) ≡ length params + suc (regs_of body + suc (regs_of rest))
+pub turn_size : (params : List Var) (body rest : Ops) (t u : Ty) → length (types_in params ++ t ∷ (types_of body ++ u ∷ types_of rest)) ≡ length params + suc (regs_of body + suc (regs_of rest))
 turn_size params body rest t u = types_before params (t ∷ (types_of body ++ u ∷ types_of rest)) ∙ ap (λ k. length params + suc k) (append_size (types_of body) (u ∷ types_of rest))
 
-cycle_size : (params : List Var) (before : Ops) (passed : List Var) (after : Ops) (rs : List Var) (rest : Ops) →
+pub cycle_size : (params : List Var) (before : Ops) (passed : List Var) (after : Ops) (rs : List Var) (rest : Ops) →
     length (types_in params ++ (types_of before ++ (types_in passed ++ (types_of after ++ (types_in rs ++ types_of rest))))) ≡ length params + (regs_of before + (length passed + (regs_of after + (length rs + regs_of rest))))
 cycle_size params before passed after rs rest =
     types_before params (types_of before ++ (types_in passed ++ (types_of after ++ (types_in rs ++ types_of rest))))

@@ -1,0 +1,5 @@
+pub mod Places
+pub mod Envs
+pub mod Rows
+pub mod Fits
+pub mod Whole
