@@ -2,11 +2,11 @@
 //! and how much was made, or why there is no code.
 #![tactic(auto)]
 
+mod ending;
 mod made;
-mod ran;
 
+use ending::run;
 use made::code_of;
-use ran::run;
 use std::io;
 use std::io::Read;
 

@@ -1,4 +1,6 @@
 //! A run of code, on one thread.
+ghost use Rattle.serial_run.specs.Outcomes.{IsStart};
+
 use ir_forms::FuncNo;
 use low_forms::LowModule;
 use serial_run::{Outcome, drive};
@@ -29,15 +31,19 @@ pub fn run(alloc: Global, code: &LowModule) -> Result<Ran, AllocError> {
         return Err(AllocError);
     }
     match Core::start(alloc, code, FuncNo(0), &[], LIMITS) {
-        Ok(mut core) => {
-            let mut journal = Vec::new(alloc);
-            let outcome = drive(alloc, &mut core, &mut journal, MOST);
-            Ok(Ran {
-                ended: ended(outcome),
-                counts: core.counts(),
-            })
-        }
+        Ok(mut core) => Ok(driven(alloc, &mut core)),
         Err(_) => Err(AllocError),
+    }
+}
+
+fn driven(alloc: Global, core: &mut Core<'_>) -> Ran
+    requires { IsStart core.old.core }
+{
+    let mut journal = Vec::new(alloc);
+    let outcome = drive(alloc, core, &mut journal, MOST);
+    Ran {
+        ended: ended(outcome),
+        counts: core.counts(),
     }
 }
 
