@@ -11,3 +11,5 @@ pub mod Roots
 pub mod Taking
 pub mod Over
 pub mod Looking
+pub mod Gathered
+pub mod Holding

@@ -31,7 +31,7 @@ use Rattle.block_carry.proofs.Values.{none_is, some_is}
 use Rattle.block_carry.proofs.Moves.{free_is, next_is, standing_is, ahead}
 
 -- the step at an await
-await_taken : (code : LowModule) (h : High) (t : ℕ) (s : Stack) (f : LowFunc) (o : Reg) (go failure : ℕ) → HasTask h t s → slice_get code.funcs s.top.current.place.func.0 ≡ Some f →
+pub await_taken : (code : LowModule) (h : High) (t : ℕ) (s : Stack) (f : LowFunc) (o : Reg) (go failure : ℕ) → HasTask h t s → slice_get code.funcs s.top.current.place.func.0 ≡ Some f →
     Has f s.top.current.place.block.0 s.top.current.place.at [] (await o (block_no go) (block_no failure)) →
     high_step code h t ≡ awaits f (await o (block_no go) (block_no failure)) (held s.top.current.regs o.0 ∷ []) h t s
 await_taken code h t s f o go failure has is at_await =

@@ -36,7 +36,7 @@ launches_taken p code k h t s number child r xs u has asks =
     (a.2, a.3, a.6, one.1 ∙ ap (λ at_ref. launches code at_ref asks.i (operands s asks.i) h t s) a.4 ∙ ap (maybe Stuck (λ g. launch_of a.2 g asks.i (operands s asks.i) h t s)) a.5)
 
 -- what a stack does at the end of its last frame
-at_last : (fails : Bool) (code : LowModule) (vs : List Val) (s : Stack) (root : Bool) → s.below ≡ [] → s.is_root ≡ root → leaves fails code vs s.below s ≡ cond root local.Shared local.Stuck
+pub at_last : (fails : Bool) (code : LowModule) (vs : List Val) (s : Stack) (root : Bool) → s.below ≡ [] → s.is_root ≡ root → leaves fails code vs s.below s ≡ cond root local.Shared local.Stuck
 at_last fails code vs s root last is = ap (λ bl. leaves fails code vs bl s) last ∙ ap (λ z. cond z local.Shared local.Stuck) is
 
 stuck_taken : (code : LowModule) (h : High) (t : ℕ) (s : Stack) (n : stack.Next) → HasTask h t s → free_step code s ≡ local.Stuck → next_of code s ≡ Some n → high_step code h t ≡ stuck_at n h t s

@@ -5,3 +5,4 @@ pub mod Stands
 pub mod Follows
 pub mod Laws
 pub mod Taken
+pub mod Held

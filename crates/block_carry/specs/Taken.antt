@@ -1,5 +1,5 @@
 -- What the machine of code with the high rows does where a stack takes a step.
-use Rattle.std.specs.Prelude.{◌≡◌, ℕ, true, false, List, [], ◌∷◌, ◌++◌, map, length, replicate, Option, Some, None, slice_get, slice_set}
+use Rattle.std.specs.Prelude.{◌≡◌, ℕ, Bool, true, false, List, [], ◌∷◌, ◌++◌, map, length, replicate, Option, Some, None, slice_get, slice_set}
 use Rattle.ir_forms.specs.declared.names.ElementName.{ElementName}
 use Rattle.ir_forms.specs.declared.names.MadeName.{MadeName}
 use Rattle.ir_forms.specs.declared.runs.ObjNo.{ObjNo}
@@ -9,7 +9,7 @@ use Rattle.ir_forms.specs.Shapes.{product}
 use Rattle.low_forms.specs.declared.code.LowFunc.{LowFunc}
 use Rattle.low_forms.specs.declared.code.LowModule.{LowModule}
 use Rattle.source_meaning.specs.declared.values.Val as source
-use Rattle.source_meaning.specs.Tasks.{Program, Task, Reads, Writes, Allocs, Creates, AwaitsOne, Launches, Gave, FailedAt}
+use Rattle.source_meaning.specs.Tasks.{Program, Task, Reads, Writes, Allocs, Creates, Adds, AwaitsOne, AwaitsAll, Launches, Gave, FailedAt}
 use Rattle.async_objects.specs.declared.kinds.Val.{Val}
 use Rattle.async_objects.specs.declared.kinds.Val.TheVariants.{Number, Object}
 use Rattle.task_stack.specs.Frames.{Stack, into, went}
@@ -22,8 +22,8 @@ use Rattle.step_core.specs.declared.ends.RootEnd.{RootEnd}
 use Rattle.step_core.specs.declared.ends.RootEnd.TheVariants as end
 use Rattle.step_core.specs.declared.ends.RootEnd.TheVariants.{Returned}
 use Rattle.step_core.specs.High as high
-use Rattle.step_core.specs.High.{High, Group, with_plain, outcome, given_at, launched_stack, launch_of, task_ends, high_step}
-use Rattle.scf_blocks.specs.Code.{block_no}
+use Rattle.step_core.specs.High.{High, Gathering, Group, adds_to, awaits_group, with_plain, outcome, given_at, launched_stack, launch_of, task_ends, high_step}
+use Rattle.scf_blocks.specs.Code.{await, block_no}
 use Rattle.block_carry.specs.Same.{Known, IsElement, AreSame}
 use Rattle.block_carry.specs.Stands.{Stands}
 use Rattle.block_carry.specs.Follows.{quiet, AsksSo, EndsSo}
@@ -122,3 +122,24 @@ RootGaveTaken = (p : Program) (code : LowModule) (k : Known) (h : High) (t : ℕ
 abbrev pub RootFailedTaken : Type 0
 RootFailedTaken = (p : Program) (code : LowModule) (k : Known) (h : High) (t : ℕ) (s : Stack) (number : ℕ) → HasTask h t s → s.is_root ≡ true → EndsSo p code k (FailedAt number) s →
     high_step code h t ≡ Takes (with_end h t (end.FailedAt number)) [] Ends
+
+-- ---- groups
+
+-- each group that has a name is there
+abbrev pub KnowsGroups : Known → High → Type 0
+KnowsGroups k h = (j : ℕ) (name : MadeName) → slice_get k.names.groups j ≡ Some name → (g : Gathering) × (slice_get h.groups j ≡ Some g)
+
+-- an add puts the task of an element behind the group's elements, or a full group stops it
+abbrev pub AddsTaken : Type 0
+AddsTaken = (p : Program) (code : LowModule) (k : Known) (h : High) (t : ℕ) (s : Stack) (number : ℕ) (name : MadeName) (x : ElementName) (used : Bool) (xs : List ValueNo) (u : Task) → HasTask h t s → k.refs ≡ h.refs → KnowsGroups k h →
+    (asks : AsksSo p code k number (Adds name x used) xs u s) →
+    (g o : ObjNo) × (j q place : ℕ) × (group : Gathering) × (slice_get h.refs g.0 ≡ Some (Group j)) × (slice_get k.names.groups j ≡ Some name) × (slice_get h.groups j ≡ Some group)
+    × (slice_get h.refs o.0 ≡ Some (high.Element q place)) × IsElement k x (Some (high.Element q place))
+    × (high_step code h t ≡ adds_to group j q g o asks.i h t s)
+
+-- an await of a group goes on where all its elements are there and over, at its second target where one of them has failed
+abbrev pub AwaitsAllTaken : Type 0
+AwaitsAllTaken = (p : Program) (code : LowModule) (k : Known) (h : High) (t : ℕ) (s : Stack) (number : ℕ) (name : MadeName) (xs : List ValueNo) (u : Task) → HasTask h t s → k.refs ≡ h.refs → KnowsGroups k h →
+    (asks : AsksSo p code k number (AwaitsAll name) xs u s) →
+    (o : ObjNo) × (j : ℕ) × (group : Gathering) × (slice_get h.refs o.0 ≡ Some (Group j)) × (slice_get k.names.groups j ≡ Some name) × (slice_get h.groups j ≡ Some group)
+    × (high_step code h t ≡ awaits_group group asks.f (await asks.then.o (block_no asks.then.go) (block_no asks.then.failure)) o h t s)

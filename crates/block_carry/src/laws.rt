@@ -1,6 +1,7 @@
 //! The laws.
+ghost use Rattle.block_carry.specs.Held.{QuietHolds, StopsSo};
 ghost use Rattle.block_carry.specs.Laws.{CodeFollows, RootStands, StandsLater};
-ghost use Rattle.block_carry.specs.Taken.{AllocsTaken, AwaitsTaken, CreatesTaken, FailedTaken, GaveTaken, LaunchesTaken, QuietTaken, ReadsTaken, RootFailedTaken, RootGaveTaken, WritesTaken};
+ghost use Rattle.block_carry.specs.Taken.{AddsTaken, AllocsTaken, AwaitsAllTaken, AwaitsTaken, CreatesTaken, FailedTaken, GaveTaken, LaunchesTaken, QuietTaken, ReadsTaken, RootFailedTaken, RootGaveTaken, WritesTaken};
 
 /// Where a stack stands at the code of a task, its steps lead to where it does what the task does next. The forms: all that
 /// compute, buffers, assertions, `scf.if`, `scf.for`, `scf.while`, calls and tried calls, groups, awaits, and launches with
@@ -72,4 +73,24 @@ pub fn root_gave_taken()
 /// Where it fails, the machine ends the root with the number of the operation.
 pub fn root_failed_taken()
     ensures { RootFailedTaken }
+{}
+
+/// Where it adds to a group, the machine puts the element behind the others, or a full group stops it.
+pub fn adds_taken()
+    ensures { AddsTaken }
+{}
+
+/// Where it awaits a group, the machine goes on by its elements, or waits.
+pub fn awaits_all_taken()
+    ensures { AwaitsAllTaken }
+{}
+
+/// A stack that holds a task and takes a step that shows nothing holds the task, or the task behind its own such step.
+pub fn quiet_holds()
+    ensures { QuietHolds }
+{}
+
+/// A stack that holds a task and takes no such step asks or ends as the task does next.
+pub fn stops_so()
+    ensures { StopsSo }
 {}
