@@ -1,27 +1,24 @@
-// The tenth number of Fibonacci. Each call launches a task for the first of its two calls, and makes the second itself.
-func.func @fibonacci(%n: i64) -> i64 {
-  %two = arith.constant 2 : i64
-  %is_small = arith.cmpi ult, %n, %two : i64
-  %result = scf.if %is_small -> (i64) {
-    scf.yield %n : i64
-  } else {
-    %one = arith.constant 1 : i64
-    %less = arith.subi %n, %one : i64
-    %token, %value = async.execute -> !async.value<i64> {
-      %inner = func.call @fibonacci(%less) : (i64) -> i64
-      async.yield %inner : i64
-    }
-    %lesser = arith.subi %n, %two : i64
-    %second = func.call @fibonacci(%lesser) : (i64) -> i64
-    %first = async.await %value : !async.value<i64>
-    %sum = arith.addi %first, %second : i64
-    scf.yield %sum : i64
-  }
-  return %result : i64
-}
-
+// The tenth number of Fibonacci by tasks: each awaits the two before it and gives their sum. The loop carries two values that
+// no one may have given yet.
 func.func @main() -> i64 {
-  %ten = arith.constant 10 : i64
-  %result = func.call @fibonacci(%ten) : (i64) -> i64
+  %zero = arith.constant 0 : index
+  %one = arith.constant 1 : index
+  %ten = arith.constant 10 : index
+  %first, %nothing = async.execute -> !async.value<i64> {
+    %number = arith.constant 0 : i64
+    async.yield %number : i64
+  }
+  %second, %unit = async.execute -> !async.value<i64> {
+    %number = arith.constant 1 : i64
+    async.yield %number : i64
+  }
+  %last, %next = scf.for %at = %zero to %ten step %one iter_args(%a = %nothing, %b = %unit) -> (!async.value<i64>, !async.value<i64>) {
+    %token, %sum = async.execute (%a as %x: !async.value<i64>, %b as %y: !async.value<i64>) -> !async.value<i64> {
+      %both = arith.addi %x, %y : i64
+      async.yield %both : i64
+    }
+    scf.yield %b, %sum : !async.value<i64>, !async.value<i64>
+  }
+  %result = async.await %last : !async.value<i64>
   return %result : i64
 }
