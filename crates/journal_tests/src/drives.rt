@@ -133,7 +133,7 @@ fn runs_end_as_they_do(rt: HostRuntime) -> Result<(), Fail> {
     for (code, most, limits, outcome, journal) in RUNS {
         let (ended, text) = ends(rt.alloc(), &code, most, limits)?;
         assert_eq!(rt; text.as_str(), journal);
-        assert!(rt; ended == outcome, "after {journal}");
+        assert!(rt; ended == outcome);
     }
     Ok(())
 }
