@@ -1,8 +1,6 @@
 -- Awaits before a launched task's operations.
-use Rattle.std.proofs.Common.{◌≡◌, ◌<◌, ◌≤◌, ℕ, zero, suc, ◌+◌, List, [], ◌∷◌, ◌++◌, map, take, drop, length, Option, Some, None, slice_get, refl, sym, ap, ap₂, subst, ◌∙◌, arith}
-use Rattle.std.proofs.lemmas.Bool.Decides.{eqb_tells}
-use Rattle.std.specs.Prelude.{nat_eq, cond}
-use Rattle.ir_forms.specs.declared.names.ElementName.{ElementName}
+use Rattle.std.proofs.Common.{◌≡◌, ◌<◌, ◌≤◌, ℕ, suc, ◌+◌, List, [], ◌∷◌, ◌++◌, length, Some, refl, sym, ap, subst, ◌∙◌, arith}
+use Rattle.std.specs.Prelude.{cond}
 use Rattle.ir_forms.specs.declared.ops.Op.{Op}
 use Rattle.ir_forms.specs.declared.ops.ValueNo.{ValueNo}
 use Rattle.low_forms.specs.declared.code.LowFunc.{LowFunc}
@@ -21,7 +19,7 @@ use Rattle.scf_blocks.specs.Code.{Scope, known, reg_no, regs_from, with_values}
 use Rattle.block_carry.specs.Same.{Known, IsSame, AreSame, Agree, Later}
 use Rattle.block_carry.specs.Rows.{AreBefore}
 use Rattle.block_carry.specs.Laid.{IsLaid, names_for, AreAwaited}
-use Rattle.block_carry.specs.Stands.{gives_of, WaitsFrom, StandsAt}
+use Rattle.block_carry.specs.Stands.{WaitsFrom, StandsAt}
 use Rattle.block_carry.specs.Follows.{IsElementFor, AreElementsFor}
 use Rattle.block_carry.proofs.Values.{some_is, by_eq, held_put, held_below, before_values, same_later}
 

@@ -1,9 +1,6 @@
 -- What follows a failure, a loop's head, and the end of a region.
-use Rattle.std.proofs.Common.{◌≡◌, ◌<◌, ◌≤◌, ◌^◌, ◌%◌, ℕ, zero, suc, ◌+◌, nat_eq, cond, Bool, true, false, List, [], ◌∷◌, length, Option, Some, None, slice_get, refl, sym, ap, ap₂, subst, ◌∙◌, arith}
-use Rattle.std.specs.Option.{option_map}
-use Rattle.std.proofs.Math.Nat.{mod-lt}
+use Rattle.std.proofs.Common.{◌≡◌, ◌<◌, ◌≤◌, ◌^◌, ◌%◌, ℕ, zero, suc, ◌+◌, nat_eq, cond, Bool, true, false, List, [], ◌∷◌, length, Some, None, slice_get, refl, sym, ap, ap₂, subst, ◌∙◌, arith}
 use Rattle.int_ops.specs.Arithmetic.{compares}
-use Rattle.int_ops.specs.declared.BinOp.TheVariants as bin
 use Rattle.int_ops.specs.declared.Pred.TheVariants.{Slt}
 use Rattle.ir_forms.specs.declared.ops.Op.{Op}
 use Rattle.ir_forms.specs.declared.ops.ValueNo.{ValueNo}
@@ -15,17 +12,17 @@ use Rattle.low_forms.specs.declared.code.LowModule.{LowModule}
 use Rattle.low_forms.specs.declared.code.Reg.{Reg}
 use Rattle.source_meaning.specs.declared.values.Val as source
 use Rattle.source_meaning.specs.declared.values.Val.TheVariants.{Number}
-use Rattle.source_meaning.specs.Parts.{Node, region_of, ops_in, params_in}
-use Rattle.source_meaning.specs.Rows.{bit, result_at, stepped, is_below}
+use Rattle.source_meaning.specs.Parts.{Node, region_of, ops_in}
+use Rattle.source_meaning.specs.Rows.{bit, is_below}
 use Rattle.source_meaning.specs.Values.{Env, maybe, named, bind, put, values_at}
 use Rattle.source_meaning.specs.Values as source_values
-use Rattle.source_meaning.specs.Flow.{entered, turned, tested, left, leaves, caught, fails}
-use Rattle.source_meaning.specs.Tasks.{Program, After, Joins, Turns, Tests, Repeats, Returns, Tries, Task, Next, Goes, Asks, Ends, Gave, FailedAt, bound}
+use Rattle.source_meaning.specs.Flow.{entered, turned, caught, fails}
+use Rattle.source_meaning.specs.Tasks.{Program, After, Turns, Tries, Task, Next, Goes, Asks, Ends, bound}
 use Rattle.async_objects.specs.declared.kinds.Val.{Val}
 use Rattle.async_objects.specs.declared.kinds.Val.TheVariants as val
 use Rattle.task_stack.specs.declared.effects.Number.TheVariants as number
 use Rattle.task_stack.specs.declared.frames.Frame.{Frame}
-use Rattle.task_stack.specs.Frames.{Stack, into, went}
+use Rattle.task_stack.specs.Frames.{Stack, went}
 use Rattle.task_stack.specs.Local.{operands, with_top}
 use Rattle.task_stack.specs.Numbers.{computed}
 use Rattle.task_stack.specs.Registers as low
@@ -33,14 +30,14 @@ use Rattle.task_stack.specs.Registers.{held, number_in}
 use Rattle.task_stack.specs.Shared.{moved}
 use Rattle.scf_blocks.specs.declared.body.Close.{Close}
 use Rattle.scf_blocks.specs.declared.body.Close.TheVariants as close
-use Rattle.scf_blocks.specs.Code.{Scope, known, reg, regs, reg_no, block_no, regs_from, with_values, br, cond_br, return, fail, constant, literal, add, less}
-use Rattle.block_carry.specs.Same.{Known, IsSame, AreSame, Agree}
-use Rattle.block_carry.specs.Rows.{AreVisible, AreNew, AreBefore}
-use Rattle.block_carry.specs.Laid.{Has, bits, Opens, FailsAt, PassesOn, GivesBit, Closes, Begins, IsLoop, IsCycle}
-use Rattle.block_carry.specs.Stands.{IsWithin, HasNumber, Fits, ends, joins, turns, tests, repeats, returns, tries, WaitsToJoin, WaitsToTurn, WaitsForTest, WaitsToRepeat, WaitsToReturn, WaitsToTell, Stands}
-use Rattle.block_carry.specs.Follows.{quiet, quiets, Comes, EndsSo}
-use Rattle.block_carry.proofs.Values.{some_is, held_put, held_below, same_regs, before_more, before_values, within_values, known_first, visible_reg, number_same, values_length, agree_at, agree_number, agree_all, agree_reg, agree_values, agree_within, agree_more, named_put, named_new, known_variable, bind_nothing}
-use Rattle.block_carry.proofs.Moves.{has_next, added, whole, to, jump_quiet, decide_quiet, compute_quiet, stack_of, return_quiet, fail_quiet}
+use Rattle.scf_blocks.specs.Code.{Scope, known, reg, reg_no, block_no, regs_from, with_values, br, cond_br, fail, constant, literal, less}
+use Rattle.block_carry.specs.Same.{Known, AreSame, Agree}
+use Rattle.block_carry.specs.Rows.{AreBefore}
+use Rattle.block_carry.specs.Laid.{Has, FailsAt, GivesBit, Begins, IsLoop}
+use Rattle.block_carry.specs.Stands.{HasNumber, Fits, ends, joins, turns, tests, repeats, returns, tries, Stands}
+use Rattle.block_carry.specs.Follows.{quiet, quiets, Comes}
+use Rattle.block_carry.proofs.Values.{held_put, held_below, same_regs, before_more, before_values, within_values, known_first, visible_reg, agree_number, agree_reg, agree_values, agree_more, named_put, named_new}
+use Rattle.block_carry.proofs.Moves.{has_next, whole, to, jump_quiet, decide_quiet, compute_quiet, stack_of, fail_quiet}
 use Rattle.block_carry.proofs.Stays.{wider, task, lands}
 
 module _ (p : Program) (code : LowModule) (k : Known) where

@@ -1,63 +1,55 @@
 -- What code does where a task begins an operation.
-use Rattle.std.proofs.Common.{◌≡◌, ◌<◌, ◌≤◌, ◌^◌, ℕ, zero, suc, ◌+◌, ◌-◌, nat_eq, nat_le, cond, Bool, true, false, List, [], ◌∷◌, map, take, drop, ◌++◌, length, Option, Some, None, IsSome, slice_get, refl, sym, ap, ap₂, subst, ◌∙◌, arith}
+use Rattle.std.proofs.Common.{◌≡◌, ◌≤◌, ℕ, zero, suc, ◌+◌, ◌-◌, nat_eq, cond, Bool, true, false, List, [], ◌∷◌, take, drop, ◌++◌, length, Option, Some, None, IsSome, slice_get, refl, sym, ap, ap₂, subst, ◌∙◌, arith}
 use Rattle.op_table.specs.declared.kind.OpKind.{OpKind}
 use Rattle.op_table.specs.declared.kind.OpKind.TheVariants as op
-use Rattle.ir_forms.specs.declared.ops.Func.{Func}
 use Rattle.ir_forms.specs.declared.ops.Op.{Op, out-Op}
 use Rattle.ir_forms.specs.declared.ops.ValueNo.{ValueNo}
-use Rattle.ir_forms.specs.declared.names.ElementName.{ElementName}
 use Rattle.ir_forms.specs.declared.types.Ty.{Ty}
-use Rattle.ir_forms.specs.Ops.{ops_of}
 use Rattle.ir_forms.specs.Shapes.{most_cells}
 use Rattle.ir_verify.specs.declared.place.Nest.{Nest}
-use Rattle.ir_verify.specs.declared.place.Nest.TheVariants.{InFunction}
-use Rattle.ir_verify.specs.Calls.{callee_place}
 use Rattle.low_forms.specs.declared.code.Instr.{Instr}
-use Rattle.low_forms.specs.declared.code.LowAttr.TheVariants as low_attr
 use Rattle.low_forms.specs.declared.code.LowFunc.{LowFunc}
 use Rattle.low_forms.specs.declared.code.LowKind.TheVariants.{Row}
 use Rattle.low_forms.specs.declared.code.LowModule.{LowModule}
-use Rattle.low_forms.specs.declared.code.Reg.{Reg}
 use Rattle.low_forms.specs.declared.code.Term.{Term}
 use Rattle.source_meaning.specs.declared.values.Val as source
-use Rattle.source_meaning.specs.declared.values.Val.TheVariants.{Number, Memory, Element, Group}
-use Rattle.source_meaning.specs.Parts.{Node, grouped, region_of, ops_in, params_in, names_of, func_ops, func_params}
-use Rattle.source_meaning.specs.Rows.{cell_from, sizes, product_within, most_elements, are_bounds}
+use Rattle.source_meaning.specs.declared.values.Val.TheVariants.{Number, Group}
+use Rattle.source_meaning.specs.Parts.{grouped, region_of, ops_in, params_in, names_of}
+use Rattle.source_meaning.specs.Rows.{cell_from, sizes, product_within}
 use Rattle.source_meaning.specs.Values.{Env, maybe, or_else, named, bind, values_at, buffer_in, dims_in, element_in, group_in}
 use Rattle.source_meaning.specs.Values as source_values
-use Rattle.source_meaning.specs.Flow.{entered, called, turned, gives, leaves, fails}
-use Rattle.source_meaning.specs.Steps.{value, number, numbers, or_fails, asked_sizes, is_used, group, awaits_each, awaits_for, child_of, does, next_op, next_pending, next}
-use Rattle.source_meaning.specs.Tasks.{Program, Scope as TaskScope, After, Joins, Turns, Tests, Repeats, Returns, Tries, Pending, Awaits, Joining, Failing, Task, Ask, Reads, Writes, Allocs, Creates, Adds, AwaitsOne, AwaitsAll, Next, Goes, Asks, bound, resumed}
+use Rattle.source_meaning.specs.Flow.{entered, turned, fails}
+use Rattle.source_meaning.specs.Steps.{value, number, numbers, or_fails, asked_sizes, is_used, group, awaits_each, awaits_for, child_of, does}
+use Rattle.source_meaning.specs.Tasks.{Program, After, Joins, Tests, Task, Reads, Writes, Allocs, Creates, Adds, AwaitsOne, AwaitsAll, Goes, Asks, bound}
 use Rattle.async_objects.specs.declared.kinds.Val.{Val}
 use Rattle.async_objects.specs.declared.kinds.Val.TheVariants as val
 use Rattle.task_stack.specs.declared.effects.Effect.TheVariants as effect
 use Rattle.task_stack.specs.declared.frames.Frame.{Frame}
 use Rattle.task_stack.specs.Effects.{effect_of_kind, effect_of}
-use Rattle.task_stack.specs.Frames.{Stack, new_frame}
+use Rattle.task_stack.specs.Frames.{Stack}
 use Rattle.task_stack.specs.Local as local
 use Rattle.task_stack.specs.Local.{operands, inner_step, free_step}
 use Rattle.task_stack.specs.Registers as low
 use Rattle.task_stack.specs.Registers.{held, number_in}
-use Rattle.task_stack.specs.Shared.{moved, passed, next_of}
+use Rattle.task_stack.specs.Shared.{moved, passed}
 use Rattle.step_core.specs.High.{launched_stack}
 use Rattle.scf_blocks.specs.declared.body.Close.{Close}
 use Rattle.scf_blocks.specs.declared.body.Close.TheVariants as close
-use Rattle.scf_blocks.specs.Code.{Scope, known, reg, regs, reg_no, block_no, regs_from, with_values, br, cond_br, call, await}
-use Rattle.block_carry.specs.Same.{Known, IsSame, AreSame, Agree, Later}
+use Rattle.scf_blocks.specs.Code.{Scope, known, reg, regs, block_no, regs_from, with_values, br, cond_br, await}
+use Rattle.block_carry.specs.Same.{Known, IsSame, AreSame, Agree}
 use Rattle.block_carry.specs.Rows as rows
 use Rattle.block_carry.specs.Rows.{AreVisible, AreNew, AreBefore, IsRow, IsComputing, IsLike, computed}
 use Rattle.block_carry.specs.Laid as laid
 use Rattle.block_carry.specs.Laid.{Has, Takes, Opens, FailsAt, PassesOn, GivesBit, Closes, IsLaid, Begins, IsLaidFunc, AreLaid}
 use Rattle.block_carry.specs.Stands.{Fits, StandsAt, Stands}
 use Rattle.block_carry.specs.Stands as stand
-use Rattle.block_carry.specs.Follows.{quiet_by, quiet, passes, Suits, HasResult, IsReadyFor, IsReady, GoesOn, Splits, AsksSo, Comes, IsElementFor, IsGroup, AreElementsFor}
-use Rattle.block_carry.proofs.Values.{some_is, before_none, before_more, before_values, number_same, value_same, numbers_same, drop_same, values_length, agree_at, agree_number, agree_all, agree_none, agree_values, agree_later, bind_nothing, plus_none}
-use Rattle.block_carry.proofs.Moves.{free_is, next_is, to, jump_quiet, decide_quiet, compute_quiet, call_quiet, pushed, stack_of}
+use Rattle.block_carry.specs.Follows.{quiet_by, passes, Suits, HasResult, GoesOn, Splits, Comes, IsElementFor, IsGroup, AreElementsFor}
+use Rattle.block_carry.proofs.Values.{before_none, before_more, before_values, number_same, value_same, numbers_same, drop_same, values_length, agree_at, agree_all, agree_none, agree_later, bind_nothing, plus_none}
+use Rattle.block_carry.proofs.Moves.{free_is, next_is, to, jump_quiet, decide_quiet, compute_quiet, stack_of}
 use Rattle.block_carry.proofs.Stays.{fits_later, task, lands, goes_on}
 use Rattle.block_carry.proofs.Awaits.{AreHeld, held_bound, agree_held, awaits_of, awaits_are, names_length as names_for_length, for_all, stands_pending, waits_laid}
 use Rattle.block_carry.proofs.Ends.{before, here, fails_here, at_head}
-use Rattle.block_carry.proofs.Regions.{gives_at}
-use Rattle.block_carry.proofs.Rows.{computes_row, effect_row, ends_row, computed_same, memory_same, number_is, sizes_length}
+use Rattle.block_carry.proofs.Rows.{computes_row, effect_row, computed_same, memory_same, number_is, sizes_length}
 
 names_length : (params : List (ValueNo × Ty)) → length (names_of params) ≡ length params
 names_length [] = refl
@@ -335,7 +327,8 @@ module _ (p : Program) (code : LowModule) (k : Known) (place : ℕ) (nest : Nest
   awaiting_on : (o : Op) (rest : List Op) (c : ValueNo) (go failure l : ℕ) (xs : List ValueNo) → Has f b i [] (await (reg scope c) (block_no go) (block_no failure)) → FailsAt f failure (out-Op o).at → Begins p code place f end a go l xs scope rest →
       Splits p code k f s (out-Op o).at xs (t rest)
   awaiting_on o rest c go failure l xs has fb begins = record {
-    o = reg scope c; found = is;
+    o = reg scope c;
+    found = is;
     go = go;
     failure = failure;
     has = has;

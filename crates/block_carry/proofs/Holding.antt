@@ -1,5 +1,5 @@
 -- A running stack holds its task.
-use Rattle.std.proofs.Common.{◌≡◌, ◌⊎◌, inl, inr, ℕ, zero, suc, cond, Bool, true, false, List, [], ◌∷◌, Option, Some, None, slice_get, refl, sym, ap, ap₂, subst, ◌∙◌}
+use Rattle.std.proofs.Common.{◌≡◌, ◌⊎◌, inl, inr, ℕ, zero, suc, cond, Bool, true, false, List, [], ◌∷◌, Option, Some, None, slice_get, refl, sym, ap, subst, ◌∙◌}
 use Rattle.ir_forms.specs.declared.ops.ValueNo.{ValueNo}
 use Rattle.low_forms.specs.declared.code.Instr.{Instr}
 use Rattle.low_forms.specs.declared.code.LowFunc.{LowFunc}
@@ -17,10 +17,10 @@ use Rattle.task_stack.specs.Registers.{held, number_in, values_at}
 use Rattle.task_stack.specs.Shared.{next_of, passed}
 use Rattle.scf_blocks.specs.Code.{return, fail}
 use Rattle.block_carry.specs.Same.{Known}
-use Rattle.block_carry.specs.Laid.{Has, AreLaid}
+use Rattle.block_carry.specs.Laid.{Has}
 use Rattle.block_carry.specs.Stands.{Stands}
-use Rattle.block_carry.specs.Follows.{is_dealloc, passes, quiet_by, quiet, quiets, IsReady, AsksFor, AsksSo, EndsSo, Comes}
-use Rattle.block_carry.specs.Held.{IsAhead, Holds, DoesSo, GoesAlong, QuietHolds, StopsSo}
+use Rattle.block_carry.specs.Follows.{is_dealloc, passes, quiet_by, quiet, quiets, AsksFor, AsksSo, EndsSo, Comes}
+use Rattle.block_carry.specs.Held.{Holds, DoesSo, GoesAlong, QuietHolds, StopsSo}
 use Rattle.block_carry.proofs.Values.{none_is, some_is}
 use Rattle.block_carry.proofs.Moves.{free_is, next_is, ahead}
 use Rattle.block_carry.proofs.Over.{at_last}

@@ -13,3 +13,4 @@ pub mod Over
 pub mod Looking
 pub mod Gathered
 pub mod Holding
+pub mod Fine

@@ -1,5 +1,5 @@
 -- Awaits in the machine of code with the high rows.
-use Rattle.std.proofs.Common.{◌≡◌, ℕ, zero, suc, List, [], ◌∷◌, Option, Some, None, slice_get, refl, sym, ap, subst, ◌∙◌}
+use Rattle.std.proofs.Common.{◌≡◌, ℕ, [], ◌∷◌, Option, Some, None, slice_get, refl, sym, ap, subst, ◌∙◌}
 use Rattle.ir_forms.specs.declared.names.ElementName.{ElementName}
 use Rattle.ir_forms.specs.declared.names.ElementName.TheVariants.{Token, Value}
 use Rattle.ir_forms.specs.declared.runs.ObjNo.{ObjNo}
@@ -13,7 +13,6 @@ use Rattle.source_meaning.specs.Values.{maybe}
 use Rattle.async_objects.specs.declared.kinds.Val.{Val}
 use Rattle.async_objects.specs.declared.kinds.Val.TheVariants as val
 use Rattle.task_stack.specs.Frames.{Stack}
-use Rattle.task_stack.specs.Local as local
 use Rattle.task_stack.specs.Local.{Standing, standing, free_step, operands}
 use Rattle.task_stack.specs.Registers.{held, value}
 use Rattle.task_stack.specs.Shared as stack
@@ -25,9 +24,8 @@ use Rattle.step_core.specs.High.{High, Ref, Outcome, outcome, awaits, awaits_ref
 use Rattle.scf_blocks.specs.Code.{await, block_no}
 use Rattle.block_carry.specs.Same.{Known, IsElement, IsSame}
 use Rattle.block_carry.specs.Laid.{Has}
-use Rattle.block_carry.specs.Follows.{AsksSo}
 use Rattle.block_carry.specs.Taken.{HasTask, looked, AwaitsTaken}
-use Rattle.block_carry.proofs.Values.{none_is, some_is}
+use Rattle.block_carry.proofs.Values.{some_is}
 use Rattle.block_carry.proofs.Moves.{free_is, next_is, standing_is, ahead}
 
 -- the step at an await
@@ -70,7 +68,7 @@ pub awaits_taken : AwaitsTaken
 awaits_taken p code k h t s number x xs u has same asks =
     let c = asks.then in
     let at_instr : asks.i ≡ (await c.o (block_no c.go) (block_no c.failure)).instr = ap (λ (n : stack.Next). n.instr) (some_is (ahead code asks.f asks.i) (ahead code asks.f (await c.o (block_no c.go) (block_no c.failure)).instr)
-        (sym asks.is ∙ next_is code s asks.f [] (await c.o (block_no c.go) (block_no c.failure)) c.found c.has)) in
+    (sym asks.is ∙ next_is code s asks.f [] (await c.o (block_no c.go) (block_no c.failure)) c.found c.has)) in
     let element : IsSame k (Element x) (held s.top.current.regs c.o.0) = subst (λ i. IsSame k (Element x) (value (operands s i) 0)) at_instr asks.asks.1 in
     let one = by_value p code k h t s asks.f c.o c.go c.failure same x (held s.top.current.regs c.o.0) element in
     (one.0, one.1, one.2, one.3, one.4, await_taken code h t s asks.f c.o c.go c.failure has c.found c.has ∙ one.5)

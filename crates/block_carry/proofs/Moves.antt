@@ -1,5 +1,5 @@
 -- Single steps of a stack.
-use Rattle.std.proofs.Common.{◌≡◌, ◌<◌, ◌≤◌, ◌^◌, ◌%◌, ℕ, zero, suc, ◌+◌, nat_eq, cond, Bool, true, false, List, [], ◌∷◌, map, length, Option, Some, None, slice_get, refl, sym, ap, ap₂, subst, ◌∙◌, arith}
+use Rattle.std.proofs.Common.{◌≡◌, ◌<◌, ◌^◌, ◌%◌, ℕ, zero, suc, ◌+◌, nat_eq, cond, Bool, true, false, List, [], ◌∷◌, Option, Some, None, slice_get, refl, ap, subst, ◌∙◌, arith}
 use Rattle.std.proofs.Math.Nat.{mod-eq_of_lt, mod-add-mod, add-mod-mod}
 use Rattle.int_ops.specs.Arithmetic.{arith_result, residue}
 use Rattle.int_ops.specs.declared.BinOp.TheVariants as bin
@@ -11,13 +11,12 @@ use Rattle.low_forms.specs.declared.code.LowFunc.{LowFunc}
 use Rattle.low_forms.specs.declared.code.LowModule.{LowModule}
 use Rattle.low_forms.specs.declared.code.Reg.{Reg}
 use Rattle.low_forms.specs.declared.code.Term.{Term}
-use Rattle.low_forms.specs.Places.{Remaining, remaining_in, remaining_of, remaining}
+use Rattle.low_forms.specs.Places.{Remaining, remaining_in, remaining_of}
 use Rattle.source_meaning.specs.Values.{maybe}
 use Rattle.source_meaning.specs.Rows.{result_at, stepped}
 use Rattle.source_meaning.specs.Tasks.{Program}
 use Rattle.async_objects.specs.declared.kinds.Val.{Val}
 use Rattle.async_objects.specs.declared.kinds.Val.TheVariants.{Number}
-use Rattle.task_stack.specs.declared.effects.Effect.{Effect}
 use Rattle.task_stack.specs.declared.effects.Effect.TheVariants as effect
 use Rattle.task_stack.specs.declared.effects.Number as one
 use Rattle.task_stack.specs.declared.frames.Frame.{Frame}
@@ -31,7 +30,7 @@ use Rattle.task_stack.specs.Numbers.{computed}
 use Rattle.task_stack.specs.Registers.{held, number_in, values_at}
 use Rattle.task_stack.specs.Shared as stack
 use Rattle.task_stack.specs.Shared.{first_of, next_of, moved, passed}
-use Rattle.scf_blocks.specs.Code.{block_no, br, cond_br, call, return, fail, await}
+use Rattle.scf_blocks.specs.Code.{block_no, br, cond_br, call, return, fail}
 use Rattle.block_carry.specs.Laid.{Has}
 use Rattle.block_carry.specs.Stands.{WaitsInCall}
 use Rattle.block_carry.specs.Follows.{quiet_by, quiet}

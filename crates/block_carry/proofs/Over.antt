@@ -1,10 +1,9 @@
 -- Ends and launches in the machine of code with the high rows.
-use Rattle.std.proofs.Common.{◌≡◌, ◌<◌, ◌^◌, ◌%◌, ℕ, cond, Bool, true, false, List, [], ◌∷◌, Option, Some, None, slice_get, refl, sym, ap, ap₂, subst, ◌∙◌, arith}
+use Rattle.std.proofs.Common.{◌≡◌, ◌^◌, ◌%◌, ℕ, cond, Bool, true, false, List, [], ◌∷◌, Some, refl, ap, ap₂, ◌∙◌}
 use Rattle.std.proofs.Math.Nat.{mod-eq_of_lt}
 use Rattle.op_table.specs.declared.kind.OpKind.TheVariants as op
 use Rattle.low_forms.specs.declared.code.LowKind.TheVariants.{Row, Launch}
 use Rattle.low_forms.specs.declared.code.LowModule.{LowModule}
-use Rattle.low_forms.specs.declared.code.Reg.{Reg}
 use Rattle.low_forms.specs.declared.code.Term.{Term}
 use Rattle.source_meaning.specs.Values.{maybe}
 use Rattle.async_objects.specs.declared.kinds.Val.{Val}
@@ -15,16 +14,13 @@ use Rattle.task_stack.specs.Local.{Local, free_step, operands, leaves}
 use Rattle.task_stack.specs.Registers.{held, number_in, values_at}
 use Rattle.task_stack.specs.Shared as stack
 use Rattle.task_stack.specs.Shared.{next_of}
-use Rattle.step_core.specs.declared.ends.RootEnd.{RootEnd}
 use Rattle.step_core.specs.declared.ends.RootEnd.TheVariants as end
 use Rattle.step_core.specs.declared.rows.SharedRow.TheVariants as row
 use Rattle.step_core.specs.declared.tasks.Task.{Task}
 use Rattle.step_core.specs.Shared as core
 use Rattle.step_core.specs.Shared.{Stuck, Idle, outs}
-use Rattle.step_core.specs.High as high
-use Rattle.step_core.specs.High.{High, lifted, launches, launch_of, task_ends, last_ends, stuck_at, by_local, high_step}
+use Rattle.step_core.specs.High.{High, lifted, launches, launch_of, last_ends, stuck_at, by_local, high_step}
 use Rattle.scf_blocks.specs.Code.{return, fail}
-use Rattle.block_carry.specs.Follows.{EndsSo}
 use Rattle.block_carry.specs.Taken.{HasTask, LaunchesTaken, GaveTaken, FailedTaken, RootGaveTaken, RootFailedTaken}
 use Rattle.block_carry.proofs.Moves.{free_is, next_is, ahead}
 use Rattle.block_carry.proofs.Taking.{kind_taken}
@@ -47,9 +43,12 @@ stuck_taken code h t s n has is next =
 pub gave_taken : GaveTaken
 gave_taken p code k h t s vs has is e =
     let ws : List Val = values_at s.top.current.regs e.ends.0 in
-    let tm : Term = return e.ends.0 in
-    (ws, e.ends.2, stuck_taken code h t s (ahead code e.f tm.instr) has (free_is code s e.f [] tm e.is e.ends.1 ∙ at_last false code ws s false e.last is) (next_is code s e.f [] tm e.is e.ends.1)
-    ∙ ap₂ (λ bl z. last_ends row.Return ws bl z h t) e.last is)
+    let tm : Term = return e.ends.0 in (
+      ws,
+      e.ends.2,
+      stuck_taken code h t s (ahead code e.f tm.instr) has (free_is code s e.f [] tm e.is e.ends.1 ∙ at_last false code ws s false e.last is) (next_is code s e.f [] tm e.is e.ends.1)
+          ∙ ap₂ (λ bl z. last_ends row.Return ws bl z h t) e.last is,
+    )
 
 pub failed_taken : FailedTaken
 failed_taken p code k h t s number has is e =

@@ -1,5 +1,5 @@
 -- The end of a region.
-use Rattle.std.proofs.Common.{◌≡◌, ◌<◌, ◌≤◌, ◌^◌, ℕ, zero, suc, ◌+◌, nat_eq, cond, Bool, true, false, List, [], ◌∷◌, length, Option, Some, None, slice_get, refl, sym, ap, ap₂, subst, ◌∙◌, arith}
+use Rattle.std.proofs.Common.{◌≡◌, ◌<◌, ◌≤◌, ◌^◌, ℕ, zero, ◌+◌, nat_eq, cond, Bool, true, false, List, [], ◌∷◌, length, Some, slice_get, refl, sym, ap, ap₂, subst, ◌∙◌, arith}
 use Rattle.std.specs.Option.{option_map}
 use Rattle.std.proofs.Math.Nat.{mod-lt}
 use Rattle.int_ops.specs.declared.BinOp.TheVariants as bin
@@ -9,15 +9,14 @@ use Rattle.ir_verify.specs.declared.place.Nest.{Nest}
 use Rattle.low_forms.specs.declared.code.Instr.{Instr}
 use Rattle.low_forms.specs.declared.code.LowFunc.{LowFunc}
 use Rattle.low_forms.specs.declared.code.LowModule.{LowModule}
-use Rattle.low_forms.specs.declared.code.Reg.{Reg}
 use Rattle.source_meaning.specs.declared.values.Val as source
 use Rattle.source_meaning.specs.declared.values.Val.TheVariants.{Number}
 use Rattle.source_meaning.specs.Parts.{Node, region_of, ops_in, params_in}
 use Rattle.source_meaning.specs.Rows.{result_at, stepped}
 use Rattle.source_meaning.specs.Values.{Env, maybe, named, bind, values_at}
 use Rattle.source_meaning.specs.Values as source_values
-use Rattle.source_meaning.specs.Flow.{entered, turned, tested, left, leaves}
-use Rattle.source_meaning.specs.Tasks.{Program, After, Joins, Turns, Tests, Repeats, Returns, Tries, Task, Next, Goes, Ends, Gave, bound}
+use Rattle.source_meaning.specs.Flow.{entered, turned, tested, leaves}
+use Rattle.source_meaning.specs.Tasks.{Program, After, Tests, Repeats, Task, Goes, bound}
 use Rattle.async_objects.specs.declared.kinds.Val.{Val}
 use Rattle.async_objects.specs.declared.kinds.Val.TheVariants as val
 use Rattle.task_stack.specs.declared.effects.Number.TheVariants as number
@@ -30,13 +29,13 @@ use Rattle.task_stack.specs.Registers.{held, number_in}
 use Rattle.task_stack.specs.Shared.{moved}
 use Rattle.scf_blocks.specs.declared.body.Close.{Close}
 use Rattle.scf_blocks.specs.declared.body.Close.TheVariants as close
-use Rattle.scf_blocks.specs.Code.{Scope, known, reg, regs, reg_no, block_no, with_values, br, cond_br, return, add}
-use Rattle.block_carry.specs.Same.{Known, IsSame, AreSame, Agree}
+use Rattle.scf_blocks.specs.Code.{Scope, known, reg, regs, reg_no, block_no, with_values, br, add}
+use Rattle.block_carry.specs.Same.{Known, Agree}
 use Rattle.block_carry.specs.Rows.{AreVisible, AreBefore}
-use Rattle.block_carry.specs.Laid.{Has, bits, Closes, Begins, IsLoop, IsCycle}
-use Rattle.block_carry.specs.Stands.{IsWithin, Fits, ends, joins, turns, tests, repeats, returns, tries, Stands}
-use Rattle.block_carry.specs.Follows.{quiet, Comes, EndsSo}
-use Rattle.block_carry.proofs.Values.{held_put, within_values, visible_reg, values_length, agree_at, agree_number, agree_all, agree_reg, agree_within, number_same, known_variable}
+use Rattle.block_carry.specs.Laid.{Closes, IsLoop, IsCycle}
+use Rattle.block_carry.specs.Stands.{IsWithin, Fits, ends, joins, turns, tests, repeats, returns, tries}
+use Rattle.block_carry.specs.Follows.{quiet, Comes}
+use Rattle.block_carry.proofs.Values.{held_put, within_values, values_length, agree_number, agree_all, agree_reg, agree_within, number_same, known_variable}
 use Rattle.block_carry.proofs.Moves.{has_next, added, to, jump_quiet, decide_quiet, compute_quiet, stack_of, return_quiet}
 use Rattle.block_carry.proofs.Stays.{task, lands}
 use Rattle.block_carry.proofs.Ends.{before, here, gives_bit, at_head}

@@ -1,20 +1,15 @@
 -- The start.
-use Rattle.std.proofs.Common.{◌≡◌, ◌<◌, ◌≤◌, ℕ, zero, suc, ◌+◌, true, List, [], ◌∷◌, map, length, Option, Some, None, slice_get, refl, sym, ap, subst, ◌∙◌, arith}
+use Rattle.std.proofs.Common.{◌≡◌, ◌≤◌, ℕ, zero, suc, ◌+◌, true, List, [], ◌∷◌, map, length, Some, slice_get, refl, sym, ap, subst, ◌∙◌, arith}
 use Rattle.ir_forms.specs.declared.args.ArgValue.{ArgValue}
 use Rattle.ir_forms.specs.declared.args.ArgValue.TheVariants as arg
 use Rattle.ir_forms.specs.declared.names.MadeName.{MadeName}
 use Rattle.ir_forms.specs.declared.names.MadeName.TheVariants.{Argument}
-use Rattle.ir_forms.specs.declared.ops.Func.{Func}
-use Rattle.ir_forms.specs.Ops.{ops_of}
 use Rattle.ir_forms.specs.Shapes.{product}
 use Rattle.ir_verify.specs.declared.place.Nest.TheVariants.{InFunction}
-use Rattle.low_forms.specs.declared.code.LowFunc.{LowFunc}
-use Rattle.low_forms.specs.declared.code.LowModule.{LowModule}
 use Rattle.source_meaning.specs.declared.values.Val.TheVariants.{Memory}
 use Rattle.source_meaning.specs.Parts.{names_of, func_ops, func_params}
 use Rattle.source_meaning.specs.Start.{arguments, root_task}
 use Rattle.source_meaning.specs.TaskOrder.{Each}
-use Rattle.source_meaning.specs.Tasks.{Program}
 use Rattle.source_meaning.specs.Values.{bind}
 use Rattle.task_stack.specs.Frames.{root_stack}
 use Rattle.step_core.specs.State.{argument_vals, argument_cells, buffer_val}
@@ -27,7 +22,6 @@ use Rattle.block_carry.specs.Laws.{first_known, IsWhole, RootStands}
 use Rattle.block_carry.proofs.Values.{some_is}
 use Rattle.block_carry.proofs.Stays.{task}
 use Rattle.block_carry.proofs.Whole.{names_length, begins_in}
-use Rattle.scf_blocks.specs.declared.body.Close.TheVariants as close
 
 -- a number has a name, and its buffer so many cells
 abbrev IsBuffer : Known → ℕ → MadeName → List ℕ → Type 0

@@ -1,5 +1,5 @@
 -- Operations that compute, and the values that they come to.
-use Rattle.std.proofs.Common.{◌≡◌, ℕ, zero, suc, nat_eq, cond, Bool, true, false, List, [], ◌∷◌, length, Option, Some, None, IsSome, slice_get, refl, sym, ap, ap₂, subst, ◌∙◌, arith}
+use Rattle.std.proofs.Common.{◌≡◌, ℕ, suc, nat_eq, cond, Bool, true, false, List, [], ◌∷◌, length, Option, Some, None, slice_get, refl, sym, ap, ap₂, subst, ◌∙◌}
 use Rattle.std.specs.Option.{option_map}
 use Rattle.op_table.specs.declared.kind.OpKind.{OpKind}
 use Rattle.ir_forms.specs.declared.types.Dim.{Dim}
@@ -7,14 +7,14 @@ use Rattle.ir_forms.specs.declared.types.Dim.TheVariants.{Fixed, Dynamic}
 use Rattle.low_forms.specs.declared.code.Instr.{Instr}
 use Rattle.low_forms.specs.declared.code.LowFunc.{LowFunc}
 use Rattle.source_meaning.specs.declared.values.Val as source
-use Rattle.source_meaning.specs.declared.values.Val.TheVariants.{Number, Memory, Element, Group}
+use Rattle.source_meaning.specs.declared.values.Val.TheVariants.{Number, Memory}
 use Rattle.source_meaning.specs.Parts.{Node}
-use Rattle.source_meaning.specs.Rows.{literal_bits, at_width, result_at, compared_at, sign_cast, sizes}
+use Rattle.source_meaning.specs.Rows.{at_width, result_at, compared_at, sign_cast, sizes}
 use Rattle.source_meaning.specs.Values.{buffer_in, dims_in}
 use Rattle.source_meaning.specs.Flow.{gives}
 use Rattle.source_meaning.specs.Steps.{value, number, chosen, or_fails, does}
 use Rattle.source_meaning.specs.Steps as steps
-use Rattle.source_meaning.specs.Tasks.{Program, Task, Next, Goes, bound}
+use Rattle.source_meaning.specs.Tasks.{Program, Task, Goes, bound}
 use Rattle.async_objects.specs.declared.kinds.Val.{Val}
 use Rattle.async_objects.specs.declared.kinds.Val.TheVariants as val
 use Rattle.task_stack.specs.declared.effects.Effect.TheVariants as effect

@@ -1,5 +1,5 @@
 -- What stays true of where a stack stands.
-use Rattle.std.proofs.Common.{◌≡◌, ◌<◌, ◌≤◌, ℕ, zero, suc, ◌+◌, List, [], ◌∷◌, length, Option, Some, None, slice_get, refl, sym, ap, subst, ◌∙◌, arith}
+use Rattle.std.proofs.Common.{◌≡◌, ◌≤◌, ℕ, ◌+◌, List, [], ◌∷◌, length, Some, slice_get, sym, ap, subst, ◌∙◌}
 use Rattle.ir_forms.specs.declared.ops.Op.{Op}
 use Rattle.ir_forms.specs.declared.ops.ValueNo.{ValueNo}
 use Rattle.ir_verify.specs.declared.place.Nest.{Nest}
@@ -21,7 +21,7 @@ use Rattle.block_carry.specs.Same.{Known, AreSame, Agree, Later}
 use Rattle.block_carry.specs.Rows.{AreNew, AreBefore}
 use Rattle.block_carry.specs.Laid.{IsLaid, Begins}
 use Rattle.block_carry.specs.Laws.{StandsLater}
-use Rattle.block_carry.specs.Stands.{IsWithin, Fits, ends, joins, turns, tests, repeats, returns, tries, WaitsToJoin, WaitsToTurn, WaitsForTest, WaitsToRepeat, WaitsToReturn, WaitsToTell, Stands}
+use Rattle.block_carry.specs.Stands.{IsWithin, Fits, ends, joins, turns, tests, repeats, returns, tries, Stands}
 use Rattle.block_carry.proofs.Values.{visible_reg, within_values, before_values, named_new, known_variable, agree_values, agree_later}
 use Rattle.block_carry.proofs.Moves.{to}
 use Rattle.block_carry.proofs.Awaits.{stands_at_later}

@@ -1,10 +1,9 @@
 -- Steps of the machine of code with the high rows.
 use Rattle.std.proofs.lemmas.Bool.Decides.{leb_tells}
-use Rattle.std.proofs.Common.{◌≡◌, ◌⊎◌, inl, inr, ◌<◌, ◌≤◌, ℕ, zero, suc, ◌+◌, ◌*◌, nat_le, cond, Bool, true, false, List, [], ◌∷◌, ◌++◌, map, drop, length, Option, Some, None, IsSome, slice_get, refl, sym, ap, ap₂, subst, ◌∙◌, arith}
-use Rattle.std.specs.Prelude.{◌&&◌, if◌then◌else◌, take, replicate, slice_set}
+use Rattle.std.proofs.Common.{◌≡◌, ◌⊎◌, inl, inr, ◌<◌, ◌≤◌, ℕ, zero, suc, ◌*◌, nat_le, cond, Bool, true, false, List, [], ◌∷◌, ◌++◌, map, drop, length, Option, Some, None, IsSome, slice_get, refl, ap, subst, ◌∙◌, arith}
+use Rattle.std.specs.Prelude.{◌&&◌, take, replicate, slice_set}
 use Rattle.op_table.specs.declared.kind.OpKind.TheVariants as op
 use Rattle.ir_forms.specs.declared.names.MadeName.{MadeName}
-use Rattle.ir_forms.specs.declared.runs.ObjNo.{ObjNo}
 use Rattle.ir_forms.specs.Shapes.{product, most_cells}
 use Rattle.low_forms.specs.declared.code.Instr.{Instr}
 use Rattle.low_forms.specs.declared.code.LowFunc.{LowFunc}
@@ -24,12 +23,12 @@ use Rattle.task_stack.specs.Registers.{value, number}
 use Rattle.task_stack.specs.Shared as stack
 use Rattle.task_stack.specs.Shared.{first_of, next_of, moved, passed}
 use Rattle.step_core.specs.declared.tasks.Task.{Task}
-use Rattle.step_core.specs.State.{task_at, with_task, with_buffers, counted, ready, cells_of, buffer_val}
+use Rattle.step_core.specs.State.{with_buffers, cells_of, buffer_val}
 use Rattle.step_core.specs.Shared as core
 use Rattle.step_core.specs.Shared.{Took, Stuck, Idle, Takes, Nothing, on, on_buffer, cell_there, numbers, can_allocate, all_within, allocates, asked_sizes, where_so}
-use Rattle.step_core.specs.High.{High, Group, with_plain, lifted, goes_on, creates, shared_at, shared_kind_step, by_local, high_step}
+use Rattle.step_core.specs.High.{High, lifted, creates, shared_at, shared_kind_step, by_local, high_step}
 use Rattle.block_carry.specs.Same.{Known, IsSame}
-use Rattle.block_carry.specs.Follows.{is_dealloc, passes, quiet_by, quiet, AsksSo}
+use Rattle.block_carry.specs.Follows.{is_dealloc, passes, quiet_by}
 use Rattle.block_carry.specs.Taken.{HasTask, goes, with_cells, KnowsCells, QuietTaken, ReadsTaken, WritesTaken, AllocsTaken, CreatesTaken}
 use Rattle.block_carry.proofs.Values.{none_is, some_is}
 

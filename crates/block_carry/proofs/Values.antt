@@ -1,6 +1,5 @@
 -- Names and registers that hold the same values.
 use Rattle.std.proofs.Common.{◌≡◌, ◌⊎◌, inl, inr, ◌<◌, ◌≤◌, ℕ, zero, suc, ◌+◌, nat_eq, cond, Bool, true, false, List, [], ◌∷◌, map, drop, length, Option, Some, None, IsSome, slice_get, refl, sym, ap, ap₂, subst, ◌∙◌, arith}
-use Rattle.std.specs.Prelude.{take}
 use Rattle.std.proofs.lemmas.Bool.Decides.{eqb_tells}
 use Rattle.ir_forms.specs.declared.names.ElementName.{ElementName}
 use Rattle.ir_forms.specs.declared.names.ElementName.TheVariants.{Token, Value}
@@ -10,7 +9,7 @@ use Rattle.low_forms.specs.declared.code.Reg.{Reg}
 use Rattle.source_meaning.specs.declared.values.Val as source
 use Rattle.source_meaning.specs.declared.values.Val.TheVariants.{Number, Memory, Element, Group}
 use Rattle.source_meaning.specs.Values.{Env, nothing, named, put, bind, values_at, number_in, dims_in}
-use Rattle.source_meaning.specs.Steps.{value, number}
+use Rattle.source_meaning.specs.Steps.{value}
 use Rattle.async_objects.specs.declared.kinds.Val.{Val}
 use Rattle.async_objects.specs.declared.kinds.Val.TheVariants as val
 use Rattle.task_stack.specs.Registers as low

@@ -1,5 +1,5 @@
 -- Code follows a task from wherever it stands.
-use Rattle.std.proofs.Common.{◌≡◌, ◌<◌, ◌≤◌, ◌^◌, ℕ, zero, suc, ◌+◌, nat_eq, cond, Bool, true, false, List, [], ◌∷◌, length, Option, Some, None, IsSome, slice_get, refl, sym, ap, ap₂, subst, ◌∙◌, arith}
+use Rattle.std.proofs.Common.{◌≡◌, ◌≤◌, ℕ, zero, suc, ◌+◌, nat_eq, Bool, List, [], ◌∷◌, length, Some, slice_get, refl, sym, ap, subst, arith}
 use Rattle.op_table.specs.declared.kind.OpKind.TheVariants as op
 use Rattle.ir_forms.specs.declared.names.ElementName.{ElementName}
 use Rattle.ir_forms.specs.declared.ops.Func.{Func}
@@ -10,36 +10,34 @@ use Rattle.ir_forms.specs.Ops.{ops_of}
 use Rattle.ir_verify.specs.declared.place.Nest.{Nest}
 use Rattle.ir_verify.specs.declared.place.Nest.TheVariants.{InFunction}
 use Rattle.ir_verify.specs.Calls.{callee_place}
-use Rattle.low_forms.specs.declared.code.LowAttr.{LowAttr}
 use Rattle.low_forms.specs.declared.code.LowAttr.TheVariants as low_attr
 use Rattle.low_forms.specs.declared.code.LowFunc.{LowFunc}
 use Rattle.low_forms.specs.declared.code.LowModule.{LowModule}
-use Rattle.low_forms.specs.declared.code.Reg.{Reg}
 use Rattle.source_meaning.specs.declared.values.Val as source
-use Rattle.source_meaning.specs.Parts.{region_of, ops_in, params_in, names_of, func_ops, func_params}
+use Rattle.source_meaning.specs.Parts.{region_of, ops_in, names_of, func_ops, func_params}
 use Rattle.source_meaning.specs.Values.{Env, named, bind, values_at}
 use Rattle.source_meaning.specs.Values as source_values
-use Rattle.source_meaning.specs.Flow.{called, fails}
-use Rattle.source_meaning.specs.Steps.{does, next_op, next_pending, next}
-use Rattle.source_meaning.specs.Tasks.{Program, Scope as TaskScope, After, Returns, Tries, Pending, Awaits, Joining, Failing, Task, AwaitsOne, Next, Goes, Asks}
+use Rattle.source_meaning.specs.Flow.{called}
+use Rattle.source_meaning.specs.Steps.{next_op, next_pending}
+use Rattle.source_meaning.specs.Tasks.{Program, Scope as TaskScope, After, Returns, Tries, Pending, Awaits, Joining, Failing, Task, AwaitsOne, Goes, Asks}
 use Rattle.async_objects.specs.declared.kinds.Val.{Val}
 use Rattle.task_stack.specs.declared.frames.Frame.{Frame}
 use Rattle.task_stack.specs.Frames.{Stack, new_frame}
 use Rattle.task_stack.specs.Registers as low
 use Rattle.scf_blocks.specs.declared.body.Close.{Close}
 use Rattle.scf_blocks.specs.declared.body.Close.TheVariants as close
-use Rattle.scf_blocks.specs.Code.{Scope, known, reg, regs, reg_no, block_no, regs_from, with_values, await, call}
+use Rattle.scf_blocks.specs.Code.{Scope, reg, regs, reg_no, block_no, regs_from, with_values, await, call}
 use Rattle.block_carry.specs.Same.{Known, AreSame, Agree}
 use Rattle.block_carry.specs.Rows.{AreVisible, AreBefore}
 use Rattle.block_carry.specs.Laid as laid
 use Rattle.block_carry.specs.Laid.{Has, Takes, Opens, PassesOn, GivesBit, IsLaid, Begins, IsLaidFunc, AreLaid}
 use Rattle.block_carry.specs.Stands.{Fits, WaitsFrom, Stands, StandsAt}
 use Rattle.block_carry.specs.Stands as stand
-use Rattle.block_carry.specs.Follows.{IsReadyFor, IsReady, Comes}
+use Rattle.block_carry.specs.Follows.{IsReadyFor, Comes}
 use Rattle.block_carry.specs.Laws.{CodeFollows}
 use Rattle.block_carry.proofs.Awaits.{waits_later, waits_keep, stands_pending}
 use Rattle.block_carry.proofs.Values.{held_below, within_values, named_new, agree_later, before_none, before_more, before_values, agree_number, agree_all, agree_none, agree_values, values_length}
-use Rattle.block_carry.proofs.Moves.{free_is, next_is, to, call_quiet, pushed, stack_of}
+use Rattle.block_carry.proofs.Moves.{free_is, next_is, call_quiet, pushed, stack_of}
 use Rattle.block_carry.proofs.Stays.{wider, fits_later, task}
 use Rattle.block_carry.proofs.Ends.{here, fails_here}
 use Rattle.block_carry.proofs.Regions.{gives_at}
@@ -220,7 +218,8 @@ module _ (p : Program) (code : LowModule) (all : AreLaid p code) (k : Known) whe
       asks = (refl, w.0);
       few = w.2;
       then = record {
-        o = reg_no r; found = st.is;
+        o = reg_no r;
+        found = st.is;
         go = w.3;
         failure = w.4;
         has = w.6;

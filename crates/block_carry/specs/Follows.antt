@@ -5,7 +5,6 @@ use Rattle.op_table.specs.declared.kind.OpKind.TheVariants as op
 use Rattle.ir_forms.specs.declared.ops.Op.{Op, out-Op}
 use Rattle.ir_forms.specs.declared.ops.ValueNo.{ValueNo}
 use Rattle.ir_forms.specs.declared.names.ElementName.{ElementName}
-use Rattle.ir_forms.specs.declared.names.ElementName.TheVariants.{Token, Value}
 use Rattle.ir_forms.specs.declared.names.MadeName.{MadeName}
 use Rattle.ir_forms.specs.Shapes.{product, most_cells}
 use Rattle.low_forms.specs.declared.code.Instr.{Instr}

@@ -1,13 +1,16 @@
 -- How the stack of a running task stands to a running task of the source at any time.
-use Rattle.std.specs.Prelude.{◌≡◌, ◌⊎◌, ℕ, List, Some, None}
+use Rattle.std.specs.Prelude.{◌≡◌, ◌⊎◌, ℕ, Some, None}
 use Rattle.low_forms.specs.declared.code.LowModule.{LowModule}
 use Rattle.source_meaning.specs.Steps.{next}
 use Rattle.source_meaning.specs.Tasks.{Program, Task, Next, Goes, Asks, Ends}
 use Rattle.task_stack.specs.Frames.{Stack}
-use Rattle.block_carry.specs.Same.{Known, Later}
+use Rattle.step_core.specs.Shared.{Took, Stuck}
+use Rattle.step_core.specs.High.{High, high_step}
+use Rattle.block_carry.specs.Same.{Known}
 use Rattle.block_carry.specs.Laid.{AreLaid}
 use Rattle.block_carry.specs.Stands.{Stands}
 use Rattle.block_carry.specs.Follows.{quiet, quiets, IsReady, AsksSo, EndsSo, Comes}
+use Rattle.block_carry.specs.Taken.{HasTask, KnowsCells, KnowsGroups}
 
 module _ (p : Program) (code : LowModule) where
   -- steps that show nothing lead to where the stack stands at the task
@@ -35,3 +38,20 @@ QuietHolds = (p : Program) (code : LowModule) → AreLaid p code → (k : Known)
 -- a stack that takes no step that shows nothing does what the task does next
 abbrev pub StopsSo : Type 0
 StopsSo = (p : Program) (code : LowModule) → AreLaid p code → (k : Known) (t : Task) (s : Stack) → Holds p code k t s → IsReady t → quiet code s ≡ None → DoesSo p code k s (next p t)
+
+-- ---- the machine of code with the high rows
+
+-- a step isn't stuck
+abbrev pub IsFine : Took High → Type 0
+IsFine Stuck = ⊥
+IsFine _ = Unit {0}
+
+-- what is known holds of a state
+pub record Knows (k : Known) (h : High) : Type 0 where
+  pub refs : k.refs ≡ h.refs
+  pub cells : KnowsCells k h
+  pub groups : KnowsGroups k h
+
+-- The step of a task whose stack holds one of the source isn't stuck.
+abbrev pub NeverStuckHere : Type 0
+NeverStuckHere = (p : Program) (code : LowModule) → AreLaid p code → (k : Known) (h : High) (t : ℕ) (u : Task) (s : Stack) → HasTask h t s → Knows k h → Holds p code k u s → IsReady u → IsFine (high_step code h t)

@@ -1,5 +1,5 @@
 -- Where the operations of a region are laid out in code of blocks.
-use Rattle.std.specs.Prelude.{◌≡◌, ◌≤◌, ◌<◌, ◌^◌, ℕ, ◌+◌, ◌-◌, Bool, true, false, List, [], ◌∷◌, ◌++◌, length, Option, Some, None, slice_get}
+use Rattle.std.specs.Prelude.{◌≡◌, ◌≤◌, ◌<◌, ◌^◌, ℕ, ◌+◌, ◌-◌, Bool, true, false, List, [], ◌∷◌, ◌++◌, length, Some, slice_get}
 use Rattle.op_table.specs.declared.kind.OpKind.{OpKind}
 use Rattle.op_table.specs.declared.kind.OpKind.TheVariants as op
 use Rattle.ir_forms.specs.declared.ops.Func.{Func}

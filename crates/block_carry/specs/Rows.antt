@@ -7,7 +7,6 @@ use Rattle.op_table.specs.declared.kind.OpKind.TheVariants as op
 use Rattle.ir_forms.specs.declared.ops.ValueNo.{ValueNo}
 use Rattle.low_forms.specs.declared.code.Reg.{Reg}
 use Rattle.low_forms.specs.declared.code.LowKind.{LowKind}
-use Rattle.low_forms.specs.declared.code.LowKind.TheVariants.{Row}
 use Rattle.low_forms.specs.declared.code.Instr.{Instr}
 use Rattle.low_forms.specs.declared.code.LowFunc.{LowFunc}
 use Rattle.low_forms.specs.Registers.{type_at}

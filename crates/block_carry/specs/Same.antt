@@ -1,10 +1,9 @@
 -- Values of code as values of the source, by what is known of numbers and objects.
-use Rattle.std.specs.Prelude.{◌≡◌, ℕ, zero, suc, take, List, [], ◌∷◌, Option, Some, None, slice_get}
+use Rattle.std.specs.Prelude.{◌≡◌, ℕ, zero, suc, take, List, [], ◌∷◌, Option, Some, slice_get}
 use Rattle.ir_forms.specs.declared.names.ElementName.{ElementName}
 use Rattle.ir_forms.specs.declared.names.ElementName.TheVariants.{Token, Value}
 use Rattle.ir_forms.specs.declared.names.MadeName.{MadeName}
 use Rattle.ir_forms.specs.Shapes.{product}
-use Rattle.ir_forms.specs.declared.ops.ValueNo.{ValueNo}
 use Rattle.low_forms.specs.declared.code.Reg.{Reg}
 use Rattle.source_meaning.specs.declared.values.Val as source
 use Rattle.source_meaning.specs.declared.values.Val.TheVariants.{Number, Memory, Element, Group}

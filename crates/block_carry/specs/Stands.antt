@@ -1,12 +1,12 @@
 -- When the stack of a task in code of blocks stands where a task of the source does.
-use Rattle.std.specs.Prelude.{◌≡◌, ◌<◌, ◌≤◌, ◌^◌, ℕ, ◌+◌, true, false, List, [], ◌∷◌, length, Option, Some, None, slice_get}
+use Rattle.std.specs.Prelude.{◌≡◌, ◌<◌, ◌≤◌, ◌^◌, ℕ, ◌+◌, true, false, List, [], ◌∷◌, length, Some, slice_get}
 use Rattle.ir_forms.specs.declared.ops.Op.{Op}
 use Rattle.ir_forms.specs.declared.ops.ValueNo.{ValueNo}
 use Rattle.low_forms.specs.declared.code.Reg.{Reg}
 use Rattle.low_forms.specs.declared.code.LowAttr.{LowAttr}
 use Rattle.low_forms.specs.declared.code.LowFunc.{LowFunc}
 use Rattle.low_forms.specs.declared.code.LowModule.{LowModule}
-use Rattle.source_meaning.specs.Parts.{Node, region_of, ops_in, params_in}
+use Rattle.source_meaning.specs.Parts.{Node, region_of, params_in}
 use Rattle.source_meaning.specs.Values.{Env, named, number_in}
 use Rattle.source_meaning.specs.Tasks.{Program, Scope, After, Joins, Turns, Tests, Repeats, Returns, Tries, Pending, Awaits, Joining, Failing, Task}
 use Rattle.async_objects.specs.declared.kinds.Val.{Val}

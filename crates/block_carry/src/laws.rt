@@ -1,5 +1,5 @@
 //! The laws.
-ghost use Rattle.block_carry.specs.Held.{QuietHolds, StopsSo};
+ghost use Rattle.block_carry.specs.Held.{NeverStuckHere, QuietHolds, StopsSo};
 ghost use Rattle.block_carry.specs.Laws.{CodeFollows, RootStands, StandsLater};
 ghost use Rattle.block_carry.specs.Taken.{AddsTaken, AllocsTaken, AwaitsAllTaken, AwaitsTaken, CreatesTaken, FailedTaken, GaveTaken, LaunchesTaken, QuietTaken, ReadsTaken, RootFailedTaken, RootGaveTaken, WritesTaken};
 
@@ -93,4 +93,9 @@ pub fn quiet_holds()
 /// A stack that holds a task and takes no such step asks or ends as the task does next.
 pub fn stops_so()
     ensures { StopsSo }
+{}
+
+/// The step of a task whose stack holds one of the source isn't stuck.
+pub fn never_stuck_here()
+    ensures { NeverStuckHere }
 {}
