@@ -9,5 +9,5 @@ for launches in 1000 4000 12000; do
     for (k = 0; k < n; k++) printf "async.await %%t%d:!async.token\n", k
     print "return }"
   }' >"$text"
-  python3 "$here/bench/measure.py" "$text" "$program" run --steps
+  python3 "$here/bench/measure.py" "$text" "$program" run --steps --objects=65536
 done
