@@ -1,4 +1,6 @@
 //! Journals in other orders: where such a journal is possible, its run has the same end.
+ghost use Rattle.std.specs.Prelude.{◌+◌, ◌<◌, length};
+
 use crate::harness::{answer, words_of};
 use aio_base::{MemSink, MemSource, OpenGate};
 use async_cli::run;
@@ -19,7 +21,9 @@ fn exchanged(
     module: &str,
     entries: &[Entry],
     at: usize,
-) -> Result<Vec<u8>, AllocError> {
+) -> Result<Vec<u8>, AllocError>
+    requires { at + 1 < length entries.now }
+{
     let mut text = module.as_bytes().to_vec(alloc)?;
     text.extend_from_slice(b"-- journal\n")?;
     push_journal(&mut text, &entries[..at])?;
