@@ -1,0 +1,4 @@
+pub mod Made
+pub mod Blocks
+pub mod Halves
+pub mod Loops
