@@ -418,18 +418,4 @@ async.runtime.add_ref 0 by 1
 func.return 0 1 0
 ",
     },
-    // a token that one of two ways uses
-    Row {
-        text: "func.func @either(%c: i1, %t: !async.token) {
-  scf.if %c {
-    async.await %t : !async.token
-  }
-  return
-}
-",
-        func: 0,
-        first: 0,
-        blocks: 0,
-        code: "",
-    },
 ];
