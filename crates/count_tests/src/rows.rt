@@ -9,7 +9,7 @@ pub(crate) struct Row {
     pub(crate) code: &'static str,
 }
 
-pub(crate) const ROWS: [Row; 12] = [
+pub(crate) const ROWS: [Row; 11] = [
     // a value that is awaited, and the token that nobody awaits
     Row {
         text: "func.func @main() -> i64 {
