@@ -36,7 +36,7 @@ counted_low f (t ∷ types) n x is = step (λ there. (let e : n + 1 ≤ x = coun
       | inr then_on ↦ later then_on
     ]
 
-counted_ascends : (f : LowFunc) (types : List Ty) (n : ℕ) → Ascends (counted_from f n types)
+pub counted_ascends : (f : LowFunc) (types : List Ty) (n : ℕ) → Ascends (counted_from f n types)
 counted_ascends f [] n = tt
 counted_ascends f (t ∷ types) n = step (counted_ascends f types (n + 1)) (is_counted f n)
   where
@@ -44,7 +44,7 @@ counted_ascends f (t ∷ types) n = step (counted_ascends f types (n + 1)) (is_c
     step later false = later
     step later true = ((λ x there. (let e : n + 1 ≤ x = counted_low f types (n + 1) x there in omega (arith, e))), later)
 
-counted_has : (f : LowFunc) (types : List Ty) (n r : ℕ) → n ≤ r → r < n + length types → is_counted f r ≡ true → has r (counted_from f n types) ≡ true
+pub counted_has : (f : LowFunc) (types : List Ty) (n r : ℕ) → n ≤ r → r < n + length types → is_counted f r ≡ true → has r (counted_from f n types) ≡ true
 counted_has f [] n r low high is = absurd (omega (arith, low, high))
 counted_has f (t ∷ types) n r low high is = elim (eqb_tells r n) [
   | inl same ↦
@@ -87,7 +87,7 @@ module _ (f : LowFunc) (c : ℕ) (params : List Reg) (others : List ℕ) (r : �
       step true is = number.and_all _ true (number.allows_drop f r q n (λ same. enough same is)) refl
       step false is = refl
 
-  along_dropped : (qs : List ℕ) (n : ℕ) → Ascends qs → along f r (shape.dropped_here f c params others qs) n ≡ n - (if has r qs && ends r then 1 else 0)
+  pub along_dropped : (qs : List ℕ) (n : ℕ) → Ascends qs → along f r (shape.dropped_here f c params others qs) n ≡ n - (if has r qs && ends r then 1 else 0)
   along_dropped [] n up = omega arith
   along_dropped (q ∷ qs) n up =
       number.along_append f r (shape.dropped_one f c params others q) (shape.dropped_here f c params others qs) n
@@ -100,7 +100,7 @@ module _ (f : LowFunc) (c : ℕ) (params : List Reg) (others : List ℕ) (r : �
           ∙ ap (λ x. n - (if ends x then 1 else 0)) (sym (number.same_number r q is))
       step false is = ap (λ b. (n - (if b && ends q then 1 else 0)) - (if has r qs && ends r then 1 else 0)) is ∙ ap (λ m. m - (if has r qs && ends r then 1 else 0)) (number.less_none n)
 
-  allowed_dropped : (qs : List ℕ) (n : ℕ) → Ascends qs → (has r qs ≡ true → ends r ≡ true → 1 ≤ n) → allowed f r (shape.dropped_here f c params others qs) n ≡ true
+  pub allowed_dropped : (qs : List ℕ) (n : ℕ) → Ascends qs → (has r qs ≡ true → ends r ≡ true → 1 ≤ n) → allowed f r (shape.dropped_here f c params others qs) n ≡ true
   allowed_dropped [] n up enough = refl
   allowed_dropped (q ∷ qs) n up enough =
       number.allowed_append f r (shape.dropped_one f c params others q) (shape.dropped_here f c params others qs) n

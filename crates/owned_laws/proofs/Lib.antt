@@ -1,0 +1,4 @@
+pub mod Same
+pub mod Along
+pub mod Blocks
+pub mod Whole
