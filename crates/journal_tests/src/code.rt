@@ -40,6 +40,11 @@ const MANY: LowAttr = LowAttr::Literal {
     magnitude: 1_000,
 };
 
+const TURNS: LowAttr = LowAttr::Literal {
+    negative: false,
+    magnitude: 1_022,
+};
+
 /// A coroutine that gives seven.
 const GIVES_SEVEN: &[Line] = &[
     (OpKind::AsyncRuntimeCreate, &[], &[0], NONE, None),
@@ -152,6 +157,57 @@ pub(crate) const NEVER_ENDS: Code = Code {
     results: b"",
     letters: b"",
     lines: &[(OpKind::CfBr, &[], &[], NONE, Some((&[0], &[])))],
+    task: &[],
+};
+
+/// Makes a token after 4,095 local steps, and then one after each 4,096.
+pub(crate) const MAKES_TOKENS: Code = Code {
+    results: b"",
+    letters: b"tvbnnnnn",
+    lines: &[
+        (OpKind::ArithConstant, &[], &[3], ZERO, None),
+        (OpKind::ArithConstant, &[], &[4], TURNS, None),
+        (OpKind::ArithConstant, &[], &[5], ONE, None),
+        (OpKind::CfBr, &[], &[], NONE, Some((&[1], &[3]))),
+        (OpKind::ArithCmpi, &[6, 4], &[2], LESS, None),
+        (OpKind::CfCondBr, &[2], &[6], NONE, Some((&[2, 3], &[]))),
+        (OpKind::ArithAddi, &[6, 5], &[7], NONE, None),
+        (OpKind::CfBr, &[], &[], NONE, Some((&[1], &[7]))),
+        (OpKind::ArithConstant, &[], &[5], ONE, None),
+        (OpKind::AsyncRuntimeCreate, &[], &[0], NONE, None),
+        (OpKind::ArithConstant, &[], &[5], ONE, None),
+        (OpKind::ArithConstant, &[], &[5], ONE, None),
+        (OpKind::ArithConstant, &[], &[5], ONE, None),
+        (OpKind::ArithConstant, &[], &[5], ONE, None),
+        (OpKind::CfBr, &[], &[], NONE, Some((&[1], &[3]))),
+    ],
+    task: &[],
+};
+
+/// A token is added twice to a group of one element.
+pub(crate) const OVERFILLS: Code = Code {
+    results: b"",
+    letters: b"tgnn",
+    lines: &[
+        (OpKind::ArithConstant, &[], &[2], ONE, None),
+        (OpKind::AsyncRuntimeCreateGroup, &[2], &[1], NONE, None),
+        (OpKind::AsyncRuntimeCreate, &[], &[0], NONE, None),
+        (OpKind::AsyncRuntimeAddToGroup, &[0, 1], &[3], NONE, None),
+        (OpKind::AsyncRuntimeAddToGroup, &[0, 1], &[3], NONE, None),
+        (OpKind::FuncReturn, &[], &[], NONE, Some((&[], &[]))),
+    ],
+    task: &[],
+};
+
+/// Allocates seven cells.
+pub(crate) const ALLOCATES_SEVEN: Code = Code {
+    results: b"",
+    letters: b"mn",
+    lines: &[
+        (OpKind::ArithConstant, &[], &[1], SEVEN, None),
+        (OpKind::MemrefAlloc, &[1], &[0], NONE, None),
+        (OpKind::FuncReturn, &[], &[], NONE, Some((&[], &[]))),
+    ],
     task: &[],
 };
 

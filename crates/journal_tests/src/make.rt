@@ -1,5 +1,5 @@
 //! Makes lowered code of plain lines.
-use ir_forms::{OpKind, Ty, ValTy, Width};
+use ir_forms::{CellTy, Dim, MemTy, OpKind, Ty, ValTy, Width};
 use lists::Items;
 use low_forms::{Block, BlockNo, Instr, LowAttr, LowFunc, LowKind, LowModule, Reg, Target, Term};
 use std::alloc::{AllocError, Global};
@@ -86,24 +86,29 @@ fn blocks(alloc: Global, lines: &[Line]) -> Result<Items<Block>, AllocError> {
     Ok(blocks)
 }
 
-/// A type, by a letter: a bit, a number of 64 bits, a token, a value that holds one, or a coroutine's identity, handle or
-/// state.
-fn ty(letter: u8) -> Ty {
-    match letter {
+/// A type, by a letter: a bit, a number of 64 bits, a token, a value that holds one, a group, a buffer, or a coroutine's
+/// identity, handle or state.
+fn ty(alloc: Global, letter: u8) -> Result<Ty, AllocError> {
+    Ok(match letter {
         b'b' => Ty::Int(Width::W1),
         b't' => Ty::Token,
         b'v' => Ty::Value(ValTy::Int(Width::W64)),
+        b'g' => Ty::Group,
+        b'm' => Ty::Memref(MemTy {
+            dims: Items::from_slice(alloc, &[Dim::Dynamic])?,
+            elem: CellTy::Int(Width::W64),
+        }),
         b'i' => Ty::CoroId,
         b'h' => Ty::CoroHandle,
         b's' => Ty::CoroState,
         _ => Ty::Int(Width::W64),
-    }
+    })
 }
 
 fn types(alloc: Global, letters: &[u8]) -> Result<Items<Ty>, AllocError> {
     let mut types = Items::new(alloc);
     for letter in letters {
-        types.push(ty(*letter))?;
+        types.push(ty(alloc, *letter)?)?;
     }
     Ok(types)
 }

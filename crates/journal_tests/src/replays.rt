@@ -1,6 +1,7 @@
 //! Journals that are replayed.
 use crate::code::{
-    AWAITS_NOBODY, AWAITS_SEVEN, CALLS_ITSELF, DROPS_TOO_MANY, LOADS_A_NUMBER, NEVER_ENDS,
+    ALLOCATES_SEVEN, AWAITS_NOBODY, AWAITS_SEVEN, CALLS_ITSELF, DROPS_TOO_MANY, LOADS_A_NUMBER,
+    MAKES_TOKENS, NEVER_ENDS, OVERFILLS,
 };
 use crate::make::{Code, module};
 use ir_forms::FuncNo;
@@ -83,6 +84,11 @@ const ALL_FRAMES: Option<TaskLook> = Some(TaskLook {
     local: 1023,
 });
 
+const ALL_BUT_ONE: Option<TaskLook> = Some(TaskLook {
+    parked: false,
+    local: 4095,
+});
+
 const ALL_STEPS: Option<TaskLook> = Some(TaskLook {
     parked: false,
     local: 4096,
@@ -101,7 +107,7 @@ const PARKED_BEFORE_ONE: Option<TaskLook> = Some(TaskLook {
 /// Code, a journal, and what it comes to.
 type Row = (Code, &'static str, Comes);
 
-const JOURNALS: [Row; 14] = [
+const JOURNALS: [Row; 24] = [
     (
         AWAITS_SEVEN,
         "0 1\n0 0\n0 3\n0 4\n1 2\n1 0\n1 0\n1 3\n0 0\n0 1\n0 1\n",
@@ -140,6 +146,24 @@ const JOURNALS: [Row; 14] = [
         Comes::NoRun(2, PARKED_BEFORE_ONE),
     ),
     (NEVER_ENDS, "0 4097\n", Comes::NoRun(0, ALL_STEPS)),
+    (NEVER_ENDS, "0 4095\n", Comes::NoRun(0, ALL_STEPS)),
+    (NEVER_ENDS, "0 4096\n0 4096\n", Comes::To(false, 8192, None)),
+    (
+        MAKES_TOKENS,
+        "0 4095\n0 4096\n0 0\n0 4096\n",
+        Comes::To(false, 12289, None),
+    ),
+    (MAKES_TOKENS, "0 4094\n", Comes::NoRun(0, ALL_BUT_ONE)),
+    (MAKES_TOKENS, "0 4096\n", Comes::NoRun(0, ALL_BUT_ONE)),
+    (MAKES_TOKENS, "0 4095\n0 4095\n", Comes::NoRun(1, ALL_STEPS)),
+    (
+        MAKES_TOKENS,
+        "0 4095\n0 4096\n0 1\n",
+        Comes::NoRun(2, NO_STEP),
+    ),
+    (OVERFILLS, "0 1\n0 0\n0 0\n0 0\n", Comes::NoRun(3, NO_STEP)),
+    (ALLOCATES_SEVEN, "0 1\n0 0\n", Comes::To(true, 3, None)),
+    (ALLOCATES_SEVEN, "4294967295 0\n", Comes::NoRun(0, None)),
 ];
 
 #[test]
@@ -151,40 +175,35 @@ fn journals_come_to_what_they_do(rt: HostRuntime) -> Result<(), Fail> {
     Ok(())
 }
 
-const LIMITED: [(Limits, Comes); 2] = [
+const LIMITED: [(Code, Limits, Comes); 4] = [
     (
-        Limits {
-            objects: 1,
-            tasks: 9,
-            cells: 9,
-            frames: 1024,
-        },
+        AWAITS_SEVEN,
+        Limits { objects: 1, ..FREE },
         Comes::NoRun(1, NO_STEP),
     ),
     (
-        Limits {
-            objects: 9,
-            tasks: 1,
-            cells: 9,
-            frames: 1024,
-        },
+        AWAITS_SEVEN,
+        Limits { tasks: 1, ..FREE },
         Comes::NoRun(2, THREE_STEPS),
+    ),
+    (
+        ALLOCATES_SEVEN,
+        Limits { cells: 6, ..FREE },
+        Comes::NoRun(0, ONE_STEP),
+    ),
+    (
+        ALLOCATES_SEVEN,
+        Limits { cells: 7, ..FREE },
+        Comes::NoRun(2, None),
     ),
 ];
 
 #[test]
 fn what_passes_a_limit_is_no_run(rt: HostRuntime) -> Result<(), Fail> {
-    for (limits, comes) in LIMITED {
+    for (code, limits, comes) in LIMITED {
         let journal = b"0 1\n0 0\n0 3\n0 4\n1 2\n1 0\n1 0\n1 3\n0 0\n0 1\n0 1\n";
-        let came = replayed(rt.alloc(), &AWAITS_SEVEN, journal, limits)?;
+        let came = replayed(rt.alloc(), &code, journal, limits)?;
         assert_eq!(rt; came, Some(comes));
     }
-    Ok(())
-}
-
-#[test]
-fn a_burst_ends_at_4096_steps(rt: HostRuntime) -> Result<(), Fail> {
-    let came = replayed(rt.alloc(), &NEVER_ENDS, b"0 4096\n0 4096\n", FREE)?;
-    assert_eq!(rt; came, Some(Comes::To(false, 8192, None)));
     Ok(())
 }

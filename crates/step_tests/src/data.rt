@@ -1,21 +1,56 @@
 //! Small code, and what its steps answer.
 use crate::make::{
     A, B, BIT, BUFFER, C, GROUP, HANDLE, ID, Line, NO, OTHER_GROUP, OTHER_TOKEN, STATE, TOKEN,
-    VALUE, calls, counts, ends, makes, number, on, row,
+    VALUE, calls, counts, ends, less, makes, number, on, row,
 };
 use low_forms::OpKind;
 
-/// Stores 77 in a cell of three, and loads it.
-pub(crate) fn stores_and_loads() -> [Line; 8] {
+/// Stores 77 in one of so many cells, and loads it.
+pub(crate) fn stores_and_loads(cells: u64, at: u64) -> [Line; 8] {
     [
-        number(3, A),
+        number(cells, A),
         row(OpKind::MemrefAlloc, [A, NO, NO], BUFFER),
-        number(2, B),
+        number(at, B),
         number(77, C),
         row(OpKind::MemrefStore, [C, BUFFER, B], NO),
         row(OpKind::MemrefLoad, [BUFFER, B, NO], A),
         on(OpKind::MemrefDealloc, BUFFER),
         ends(on(OpKind::FuncReturn, A), [NO, NO, NO]),
+    ]
+}
+
+/// An operation of two numbers, whose result is returned.
+pub(crate) fn computes(kind: OpKind, left: u64, right: u64) -> [Line; 4] {
+    [
+        number(left, A),
+        number(right, B),
+        row(kind, [A, B, NO], C),
+        ends(on(OpKind::FuncReturn, C), [NO, NO, NO]),
+    ]
+}
+
+/// Compares two numbers, and returns the first where it is less, or else the size of a buffer of that many cells.
+pub(crate) fn compares(left: u64, right: u64) -> [Line; 9] {
+    [
+        number(left, A),
+        number(right, B),
+        less(A, B, BIT),
+        row(OpKind::MemrefAlloc, [B, NO, NO], BUFFER),
+        number(0, C),
+        row(OpKind::MemrefDim, [BUFFER, C, NO], B),
+        row(OpKind::ArithSelect, [BIT, A, B], C),
+        ends(on(OpKind::CfCondBr, BIT), [1, 1, NO]),
+        ends(on(OpKind::FuncReturn, C), [NO, NO, NO]),
+    ]
+}
+
+/// Cuts a number to a bit, and casts it back.
+pub(crate) fn casts(from: u64, back: OpKind) -> [Line; 4] {
+    [
+        number(from, A),
+        row(OpKind::ArithTrunci, [A, NO, NO], BIT),
+        row(back, [BIT, NO, NO], C),
+        ends(on(OpKind::FuncReturn, C), [NO, NO, NO]),
     ]
 }
 
@@ -48,7 +83,7 @@ pub(crate) fn nine_tokens() -> [Line; 10] {
     ]
 }
 
-fn adds(token: u32, group: u32) -> Line {
+pub(crate) fn adds(token: u32, group: u32) -> Line {
     row(OpKind::AsyncRuntimeAddToGroup, [token, group, NO], B)
 }
 
@@ -67,8 +102,8 @@ pub(crate) fn adds_twice(size: u64, set: OpKind) -> [Line; 9] {
     ]
 }
 
-/// Adds a token to two groups of one element, and a group to a group.
-pub(crate) fn adds_to_two() -> [Line; 10] {
+/// Adds a token to two groups of one element, sets it, and adds a group to a group, or looks whether the second is in error.
+pub(crate) fn adds_to_two(set: OpKind, last: Line) -> [Line; 11] {
     [
         number(1, A),
         row(OpKind::AsyncRuntimeCreateGroup, [A, NO, NO], GROUP),
@@ -76,10 +111,23 @@ pub(crate) fn adds_to_two() -> [Line; 10] {
         makes(OpKind::AsyncRuntimeCreate, TOKEN),
         adds(TOKEN, GROUP),
         adds(TOKEN, OTHER_GROUP),
-        on(OpKind::AsyncRuntimeSetAvailable, TOKEN),
+        on(set, TOKEN),
         on(OpKind::AsyncRuntimeAwait, GROUP),
         on(OpKind::AsyncRuntimeAwait, OTHER_GROUP),
-        ends(adds(GROUP, OTHER_GROUP), [NO, NO, NO]),
+        last,
+        ends(on(OpKind::FuncReturn, BIT), [NO, NO, NO]),
+    ]
+}
+
+/// Adds a token so many times to a group of no elements, or of two, and returns its last place.
+pub(crate) fn fills(size: u64) -> [Line; 6] {
+    [
+        number(size, A),
+        row(OpKind::AsyncRuntimeCreateGroup, [A, NO, NO], GROUP),
+        makes(OpKind::AsyncRuntimeCreate, TOKEN),
+        adds(TOKEN, GROUP),
+        adds(TOKEN, GROUP),
+        ends(on(OpKind::FuncReturn, B), [NO, NO, NO]),
     ]
 }
 

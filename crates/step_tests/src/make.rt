@@ -1,5 +1,5 @@
 //! Makes lowered code of plain lines.
-use ir_forms::{CellTy, Dim, FuncNo, MemTy, Ty, ValTy, Width};
+use ir_forms::{CellTy, Dim, FuncNo, MemTy, Pred, Ty, ValTy, Width};
 use lists::Items;
 use low_forms::{
     Block, BlockNo, Instr, LowAttr, LowFunc, LowKind, LowModule, OpKind, Reg, Target, Term,
@@ -79,6 +79,14 @@ pub(crate) fn number(magnitude: u64, to: u32) -> Line {
             magnitude,
         },
         ..makes(OpKind::ArithConstant, to)
+    }
+}
+
+/// Whether the first is less, without a sign.
+pub(crate) fn less(left: u32, right: u32, to: u32) -> Line {
+    Line {
+        attr: LowAttr::Pred(Pred::Ult),
+        ..row(OpKind::ArithCmpi, [left, right, NO], to)
     }
 }
 

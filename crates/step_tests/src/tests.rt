@@ -1,8 +1,8 @@
 use crate::data::{
-    adds_to_two, adds_twice, allocates, awaits_task, deeper, launches_two, nine_tokens, nothing,
-    stores_and_loads, task, value_new, value_used,
+    adds, adds_to_two, adds_twice, allocates, awaits_task, casts, compares, computes, deeper,
+    fills, launches_two, nine_tokens, nothing, stores_and_loads, task, value_new, value_used,
 };
-use crate::make::{A, Line, NO, VALUE, counts, module, on, row};
+use crate::make::{A, BIT, GROUP, Line, NO, OTHER_GROUP, VALUE, counts, module, on, row};
 use ir_forms::{FuncNo, TaskNo};
 use low_forms::OpKind;
 use std::alloc::{AllocError, Global};
@@ -14,6 +14,11 @@ const LIMITS: Limits = Limits {
     tasks: 2,
     cells: 16,
     frames: 1024,
+};
+
+const WIDE: Limits = Limits {
+    cells: 16_777_216,
+    ..LIMITS
 };
 
 /// So many steps of a task, each of which answers so.
@@ -69,11 +74,23 @@ fn holds(
     steps: &[Taken],
     seen: Seen,
 ) -> Result<bool, AllocError> {
+    holds_within(alloc, main, second, LIMITS, steps, seen)
+}
+
+/// The same of a run with other limits.
+fn holds_within(
+    alloc: Global,
+    main: &[Line],
+    second: &[Line],
+    limits: Limits,
+    steps: &[Taken],
+    seen: Seen,
+) -> Result<bool, AllocError> {
     let code = module(alloc, main, second.len() > 2, second)?;
     if code.funcs.is_empty() {
         return Ok(false);
     }
-    let mut core = Core::start(alloc, &code, FuncNo(0), &[], LIMITS)?;
+    let mut core = Core::start(alloc, &code, FuncNo(0), &[], limits)?;
     if !all_answer(&mut core, steps)? {
         return Ok(false);
     }
@@ -90,7 +107,7 @@ fn cells_and_limits(rt: HostRuntime) -> Result<(), Fail> {
     assert!(rt;
         holds(
             alloc,
-            &stores_and_loads(),
+            &stores_and_loads(3, 2),
             &none,
             &[(1, 1, Step::NotReady), (0, 8, fine), (0, 1, Step::NotReady)],
             (0, 0, 8, Ending::Returned(77))
@@ -165,6 +182,130 @@ fn cells_and_limits(rt: HostRuntime) -> Result<(), Fail> {
 }
 
 #[test]
+fn as_many_cells_as_may_be(rt: HostRuntime) -> Result<(), Fail> {
+    let alloc = rt.alloc();
+    let none = nothing();
+    let fine = Step::Stepped;
+    let full = Step::Stop(Limit::Cells { used: 16_777_216 });
+    assert!(rt;
+        holds_within(
+            alloc,
+            &stores_and_loads(16_777_216, 16_777_215),
+            &none,
+            WIDE,
+            &[(0, 8, fine)],
+            (0, 0, 8, Ending::Returned(77))
+        )?
+    );
+    assert!(rt;
+        holds_within(
+            alloc,
+            &stores_and_loads(16_777_216, 16_777_216),
+            &none,
+            WIDE,
+            &[(0, 4, fine), (0, 1, Step::NotReady)],
+            (0, 0, 4, Ending::None)
+        )?
+    );
+    assert!(rt;
+        holds_within(
+            alloc,
+            &allocates(16_777_216, 1),
+            &none,
+            WIDE,
+            &[(0, 3, fine), (0, 1, full)],
+            (0, 0, 3, Ending::None)
+        )?
+    );
+    Ok(())
+}
+
+/// Operations, two numbers, and the result, if there is one.
+const NUMBERS: [(OpKind, u64, u64, Option<u64>); 27] = [
+    (OpKind::ArithAddi, u64::MAX, 2, Some(1)),
+    (OpKind::ArithSubi, 1, 2, Some(u64::MAX)),
+    (OpKind::ArithMuli, u64::MAX, u64::MAX, Some(1)),
+    (OpKind::ArithDivui, u64::MAX, 2, Some(u64::MAX >> 1)),
+    (OpKind::ArithDivui, 1, 0, None),
+    (OpKind::ArithDivsi, u64::MAX, 1, Some(u64::MAX)),
+    (OpKind::ArithDivsi, 1 << 63, u64::MAX, None),
+    (OpKind::ArithRemui, u64::MAX, 16, Some(15)),
+    (OpKind::ArithRemui, 1, 0, None),
+    (OpKind::ArithRemsi, u64::MAX, 16, Some(u64::MAX)),
+    (OpKind::ArithRemsi, 1, 0, None),
+    (OpKind::ArithAndi, 12, 10, Some(8)),
+    (OpKind::ArithOri, 12, 10, Some(14)),
+    (OpKind::ArithXori, 12, 10, Some(6)),
+    (OpKind::ArithShli, 1, 63, Some(1 << 63)),
+    (OpKind::ArithShli, 1, 64, None),
+    (OpKind::ArithShrui, 1 << 63, 63, Some(1)),
+    (OpKind::ArithShrui, 1, 64, None),
+    (OpKind::ArithShrsi, 1 << 63, 63, Some(u64::MAX)),
+    (OpKind::ArithShrsi, 1, 64, None),
+    (OpKind::ArithMaxui, u64::MAX, 1, Some(u64::MAX)),
+    (OpKind::ArithMaxsi, u64::MAX, 1, Some(1)),
+    (OpKind::ArithMinui, u64::MAX, 1, Some(1)),
+    (OpKind::ArithMinsi, u64::MAX, 1, Some(u64::MAX)),
+    (OpKind::ArithIndexCast, 7, 0, Some(7)),
+    (OpKind::ArithIndexCastui, 7, 0, Some(7)),
+    (OpKind::CfBr, 7, 0, None),
+];
+
+#[test]
+fn numbers(rt: HostRuntime) -> Result<(), Fail> {
+    let alloc = rt.alloc();
+    let none = nothing();
+    let fine = Step::Stepped;
+    for (kind, left, right, result) in NUMBERS {
+        let code = computes(kind, left, right);
+        let passed = match result {
+            Some(bits) => holds(
+                alloc,
+                &code,
+                &none,
+                &[(0, 4, fine)],
+                (0, 0, 4, Ending::Returned(bits)),
+            )?,
+            None => holds(
+                alloc,
+                &code,
+                &none,
+                &[(0, 2, fine), (0, 1, Step::NotReady)],
+                (0, 0, 2, Ending::None),
+            )?,
+        };
+        assert!(rt; passed, "of {left} and {right}");
+    }
+    for (left, right, result) in [(3, 4, 3), (4, 4, 4), (9, 5, 5)] {
+        assert!(rt;
+            holds(
+                alloc,
+                &compares(left, right),
+                &none,
+                &[(0, 9, fine)],
+                (0, 0, 9, Ending::Returned(result))
+            )?
+        );
+    }
+    for (from, back, result) in [
+        (2, OpKind::ArithExtui, 0),
+        (3, OpKind::ArithExtui, 1),
+        (3, OpKind::ArithExtsi, u64::MAX),
+    ] {
+        assert!(rt;
+            holds(
+                alloc,
+                &casts(from, back),
+                &none,
+                &[(0, 4, fine)],
+                (0, 0, 4, Ending::Returned(result))
+            )?
+        );
+    }
+    Ok(())
+}
+
+#[test]
 fn objects_and_groups(rt: HostRuntime) -> Result<(), Fail> {
     let alloc = rt.alloc();
     let none = nothing();
@@ -209,10 +350,44 @@ fn objects_and_groups(rt: HostRuntime) -> Result<(), Fail> {
     assert!(rt;
         holds(
             alloc,
-            &adds_to_two(),
+            &adds_to_two(OpKind::AsyncRuntimeSetAvailable, adds(GROUP, OTHER_GROUP)),
             &none,
             &[(0, 9, fine), (0, 1, Step::NotReady)],
             (0, 3, 9, Ending::None)
+        )?
+    );
+    let look = row(OpKind::AsyncRuntimeIsError, [OTHER_GROUP, NO, NO], BIT);
+    for (set, error) in [
+        (OpKind::AsyncRuntimeSetAvailable, 0),
+        (OpKind::AsyncRuntimeSetError, 1),
+    ] {
+        assert!(rt;
+            holds(
+                alloc,
+                &adds_to_two(set, look),
+                &none,
+                &[(0, 11, fine)],
+                (0, 3, 11, Ending::Returned(error))
+            )?
+        );
+    }
+    let empty = Step::Stop(Limit::Group { size: 0 });
+    assert!(rt;
+        holds(
+            alloc,
+            &fills(2),
+            &none,
+            &[(0, 6, fine)],
+            (0, 2, 6, Ending::Returned(1))
+        )?
+    );
+    assert!(rt;
+        holds(
+            alloc,
+            &fills(0),
+            &none,
+            &[(0, 3, fine), (0, 1, empty)],
+            (0, 2, 3, Ending::None)
         )?
     );
     Ok(())
