@@ -1,4 +1,4 @@
-// Two tasks sum the halves of a buffer, and a parallel loop fills it before. `source` runs it; tasks can't run it yet.
+// Two tasks sum the halves of a buffer, and a parallel loop fills it before.
 func.func @sum(%m: memref<?xi64>, %from: index, %to: index) -> i64 {
   %zero = arith.constant 0 : i64
   %one = arith.constant 1 : index

@@ -1,5 +1,5 @@
 -- What is owed is a function of what is given, by the stages of each command.
-use Rattle.std.proofs.Common.{◌≡◌, ◌≤◌, ◌<◌, ◌⊎◌, ℕ, List, length, true, Option, Some, None, MatchOption, Result, Ok, Err, refl, sym, ap, subst, ◌∙◌, inl, inr, arith}
+use Rattle.std.proofs.Common.{◌≡◌, ◌≤◌, ◌<◌, ◌⊎◌, ℕ, List, ◌++◌, length, true, Option, Some, None, MatchOption, Result, Ok, Err, refl, sym, ap, subst, ◌∙◌, inl, inr, arith}
 use Rattle.aio_base.specs.Whole.{Told, ReadsWhole, ReadsPast}
 use Rattle.mlir_text.specs.Texts.{OneAnswer}
 use Rattle.step_core.specs.declared.ends.End.{End}
@@ -16,12 +16,13 @@ use Rattle.async_cli.specs.declared.words.Command.TheVariants.{Run}
 use Rattle.async_cli.specs.declared.words.Flags.{Flags}
 use Rattle.async_cli.specs.Words.{Asked, AsksFor, AsksNot, asked_of, entry_asked}
 use Rattle.async_cli.specs.Answers.{Given, text_limit, IsInput, InputStops}
-use Rattle.async_cli.specs.Calls.{Call, IsCall, TextStops, Code, code_of}
+use Rattle.async_cli.specs.Calls.{Call, IsCall, TextStops, Code, IsCodeOf}
 use Rattle.async_cli.specs.Laws.{is_decided, is_settled, is_settled_answer, RunOwesOne}
-use Rattle.async_cli.specs.Runs.{Enters, LeadsTo, TellsEnd, Finishes, IsShort, IsSpent, RunStops, Causes, Owes}
+use Rattle.async_cli.specs.Runs.{Enters, LeadsTo, TellsEnd, Finishes, Ran, IsShort, IsSpent, RunStops, Causes, Owes}
 use Rattle.async_cli.specs.Stops.{stop_status, stop_text}
 use Rattle.async_cli.specs.Texts.{end_status, run_text}
 use Rattle.async_cli.proofs.Modules.{CallGives, calls_alike}
+use Rattle.async_cli.proofs.OneCode.{one_code, one_printed}
 
 -- ---- what is read
 
@@ -48,7 +49,6 @@ input_stops limit source bytes (stop.Module fault) told decided why = absurd why
 input_stops limit source bytes stop.NoEntry told decided why = absurd why
 input_stops limit source bytes (stop.EntryType op) told decided why = absurd why
 input_stops limit source bytes (stop.Args at) told decided why = absurd why
-input_stops limit source bytes (stop.NotYet op) told decided why = absurd why
 input_stops limit source bytes (stop.Short parked) told decided why = absurd why
 input_stops limit source bytes (stop.Objects live) told decided why = absurd why
 input_stops limit source bytes (stop.Tasks live) told decided why = absurd why
@@ -64,8 +64,9 @@ pub one_state : (c : Code) (journal : List Entry) (s t : Core) → LeadsTo c jou
 one_state c journal s t a b = let both : Some s ≡ Some t = sym a ∙ b in cc both
 
 abbrev pub RunGives : Call → Asked → List Entry → Result (ℕ × List ℕ) Stop → Type 0
-RunGives c asked journal (Ok told) = Finishes (code_of c) (notes_of c.program) asked.flags journal told.0 told.1
-RunGives c asked journal (Err s) = (is_settled s ≡ true) × RunStops (code_of c) asked.bounds journal s
+RunGives c asked journal (Ok told) = Ran asked c journal told.0 told.1
+RunGives c asked journal (Err s) =
+    (is_settled s ≡ true) × ((code : Code) × (IsCodeOf asked.options c code × RunStops code asked.bounds journal s))
 
 -- why a run has no end: it is held up, or its journal is full
 abbrev RunWhy : Code → Bounds → List Entry → Stop → Type 0
@@ -80,7 +81,6 @@ run_why c bounds journal (stop.Module fault) settled why = absurd why
 run_why c bounds journal stop.NoEntry settled why = absurd why
 run_why c bounds journal (stop.EntryType op) settled why = absurd why
 run_why c bounds journal (stop.Args at) settled why = absurd why
-run_why c bounds journal (stop.NotYet op) settled why = absurd why
 run_why c bounds journal (stop.Short parked) settled why = inl (parked, (refl, why))
 run_why c bounds journal (stop.Objects live) settled why = absurd (cc settled)
 run_why c bounds journal (stop.Tasks live) settled why = absurd (cc settled)
@@ -99,7 +99,6 @@ settled_decided (stop.Module fault) settled = settled
 settled_decided stop.NoEntry settled = settled
 settled_decided (stop.EntryType op) settled = settled
 settled_decided (stop.Args at) settled = settled
-settled_decided (stop.NotYet op) settled = settled
 settled_decided (stop.Short parked) settled = settled
 settled_decided (stop.Objects live) settled = absurd (cc settled)
 settled_decided (stop.Tasks live) settled = absurd (cc settled)
@@ -149,15 +148,34 @@ one_text c notes flags journal m n t u a b =
     let same : b.state ≡ a.state = one_state c journal _ _ b.replayed a.replayed in
     one_end notes flags a.state journal m n t u a.told (subst (λ s. TellsEnd notes flags s journal n u) same b.told)
 
+-- a run's end has one text
+one_ran : (c : Call) (asked : Asked) (journal : List Entry) (m n : ℕ) (t u : List ℕ) → Ran asked c journal m t → Ran asked c journal n u →
+    (m ≡ n) × (t ≡ u)
+one_ran c asked journal m n t u a b =
+    let same : b.code ≡ a.code = one_code asked.options c b.code a.code b.is a.is in
+    let prints = one_printed asked.flags.print asked.options c.program a.printed b.printed a.texts b.texts in
+    let one = one_text a.code (notes_of c.program) asked.flags journal m n a.end b.end a.finishes
+    (subst (λ k. Finishes k (notes_of c.program) asked.flags journal n b.end) same b.finishes) in
+    (one.0, a.told ∙ ap (λ p. p ++ a.end) prints ∙ ap (λ e. b.printed ++ e) one.1 ∙ sym b.told)
+
+ran_stays : (c : Call) (asked : Asked) (journal : List Entry) (s : Stop) (n : ℕ) (t : List ℕ) → Ran asked c journal n t → is_settled s ≡ true →
+    (code : Code) × (IsCodeOf asked.options c code × RunStops code asked.bounds journal s) → ⊥
+ran_stays c asked journal s n t ran settled why =
+    let same : why.0 ≡ ran.code = one_code asked.options c why.0 ran.code why.1.0 ran.is in
+    finished_stays ran.code asked.bounds journal s ran.finishes.state ran.finishes.replayed ran.finishes.finished settled
+    (subst (λ k. RunStops k asked.bounds journal s) same why.1.1)
+
 runs_alike : (c : Call) (asked : Asked) (journal : List Entry) (r q : Result (ℕ × List ℕ) Stop) → RunGives c asked journal r →
     RunGives c asked journal q → r ≡ q
 runs_alike c asked journal (Ok t) (Ok u) a b =
-    let one = one_text (code_of c) (notes_of c.program) asked.flags journal t.0 u.0 t.1 u.1 a b in
-    ap (λ n. Ok (n, t.1)) one.0 ∙ ap (λ l. Ok (u.0, l)) one.1
-runs_alike c asked journal (Ok t) (Err s) a b = absurd (finished_stays (code_of c) asked.bounds journal s a.state a.replayed a.finished b.0 b.1)
-runs_alike c asked journal (Err s) (Ok t) a b = absurd (finished_stays (code_of c) asked.bounds journal s b.state b.replayed b.finished a.0 a.1)
+    let one = one_ran c asked journal t.0 u.0 t.1 u.1 a b in ap (λ n. Ok (n, t.1)) one.0 ∙ ap (λ l. Ok (u.0, l)) one.1
+runs_alike c asked journal (Ok t) (Err s) a b = absurd (ran_stays c asked journal s t.0 t.1 a b.0 b.1)
+runs_alike c asked journal (Err s) (Ok t) a b = absurd (ran_stays c asked journal s t.0 t.1 b a.0 a.1)
 runs_alike c asked journal (Err s) (Err t) a b =
-    ap Err (both_stop (code_of c) asked.bounds journal s t (run_why (code_of c) asked.bounds journal s a.0 a.1) (run_why (code_of c) asked.bounds journal t b.0 b.1))
+    let same : b.1.0 ≡ a.1.0 = one_code asked.options c b.1.0 a.1.0 b.1.1.0 a.1.1.0 in
+    let stops = subst (λ k. RunStops k asked.bounds journal t) same b.1.1.1 in
+    ap Err
+    (both_stop a.1.0 asked.bounds journal s t (run_why a.1.0 asked.bounds journal s a.0 a.1.1.1) (run_why a.1.0 asked.bounds journal t b.0 stops))
 
 -- ---- `run`, from its words on
 
@@ -249,9 +267,9 @@ caused given bytes journal s told settled (Causes.call stop asked text empty ask
     let read = input_gives text_limit given.source bytes text told input in
     inr (asked, (asks, inr (read.1, inl (s, ((settled_decided s settled, subst (λ b. TextStops b asked s) read.0 why), refl)))))
 caused given bytes journal _ told settled (Causes.no_memory empty) = absurd (cc settled)
-caused given bytes journal s told settled (Causes.run stop asked c enters why) =
+caused given bytes journal s told settled (Causes.run stop asked c code enters is why) =
     let read = entered given bytes asked c told enters in
-    inr (asked, (enters.asks, inr (read.0, inr (c, (read.1, (settled, why))))))
+    inr (asked, (enters.asks, inr (read.0, inr (c, (read.1, (settled, (code, (is, why))))))))
 
 owed : (given : Given) (bytes : List ℕ) (journal : List Entry) (a : Option Stop) (n : ℕ) (t : List ℕ) → given.source.left ≡ Some bytes →
     is_settled_answer a ≡ true → Owes given journal a n t → Gives given.words bytes journal a n t

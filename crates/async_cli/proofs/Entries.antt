@@ -1,5 +1,5 @@
 -- The entry's number is that of a function of the module.
-use Rattle.std.proofs.Common.{◌≡◌, ◌<◌, ℕ, zero, suc, ◌+◌, List, [], ◌∷◌, length, map, Bool, true, false, cond, Result, Ok, Err, MatchResult, slice_get, refl, arith, subst, ap, sym, ◌∙◌, inr, Some}
+use Rattle.std.proofs.Common.{◌≡◌, ◌<◌, ℕ, zero, suc, ◌+◌, List, [], ◌∷◌, length, map, Bool, true, false, cond, Result, Ok, Err, MatchResult, slice_get, refl, arith, subst, ap, sym, inr, Some, Vec, Global}
 use Rattle.std.proofs.lemmas.Option.{none-some}
 use Rattle.std.specs.Str.{bytes_eq}
 use Rattle.ir_forms.specs.declared.ops.Func.{Func}
@@ -15,16 +15,18 @@ use Rattle.ir_forms.specs.declared.ops.ValueNo.{ValueNo}
 use Rattle.ir_forms.specs.declared.types.Ty.{Ty}
 use Rattle.source_meaning.specs.Parts.{func_params}
 use Rattle.low_forms.specs.declared.code.LowFunc.{LowFunc}
-use Rattle.low_forms.specs.declared.code.LowModule.{LowModule}
-use Rattle.pass_line.specs.Line.{compiled}
+use Rattle.loop_blocks.specs.declared.options.Options.{Options}
 use Rattle.line_laws.specs.Laws.{FunctionsStand}
+use Rattle.pass_line.specs.declared.line.Compiled.{Compiled}
+use Rattle.pass_line.specs.Line.{IsCompiled}
+use Rattle.pass_line.specs.Texts.{all_texts}
 use Rattle.async_cli.specs.declared.calls.EntryCall.{EntryCall}
 use Rattle.async_cli.specs.declared.calls.Loaded.{Loaded}
 use Rattle.async_cli.specs.declared.stops.Stop.{Stop}
 use Rattle.async_cli.specs.declared.stops.Stop.TheVariants as stop
 use Rattle.async_cli.specs.Words.{Asked}
 use Rattle.async_cli.specs.Answers.{IsAccepted, entry_of, types_at, Names, FindStops, FitStops, EntryStops}
-use Rattle.async_cli.specs.Calls.{Call, IsAsked, IsCall, CallStops, TextStops, Code, held, IsLoaded, Stands, IsMade, MakeStops}
+use Rattle.async_cli.specs.Calls.{Call, IsAsked, IsCall, TextStops, held, IsLoaded, Stands, IsMade, IsMadeFor}
 
 -- a function at so many places behind the place k
 abbrev pub IsThere : ℕ → List Func → ℕ → Type 0
@@ -67,11 +69,12 @@ code_below (g ∷ fs) zero f is = omega arith
 code_below (g ∷ fs) (suc k) f is = let rest = code_below fs k f is in omega (arith, rest)
 
 -- the entry's function stands in the code of its module
-pub entry_stands : FunctionsStand → (asked : Asked) (c : Call) (l : Loaded) → IsSound c.program.funcs → IsAsked asked c → IsLoaded c l → Stands (held l)
-entry_stands law asked c l sound is loaded =
-    let there = entry_is_there c.program.funcs asked.entry c.function is.names.found in
-    let stands = law c.program c.function.0 there.0 sound there.1 in
-    subst Stands (sym loaded.code) (code_below (compiled c.program).funcs c.function.0 stands.0 stands.1.0)
+pub entry_stands : FunctionsStand → (asked : Asked) (options : Options) (print : Bool) (c : Call) (l : Loaded) → IsSound c.program.funcs → IsAsked asked c →
+    IsLoaded options print c l → Stands (held l)
+entry_stands law asked options print c l sound is loaded =
+    let there = entry_is_there c.program.funcs asked.entry c.function is.found in
+    let stands = law options c.program l.low c.function.0 there.0 sound loaded.code.low there.1 in
+    subst (λ (f : FuncNo). f.0 < length l.low.funcs) (sym loaded.code.function) (code_below l.low.funcs c.function.0 stands.0 stands.1.0)
 
 -- ---- why there is no call
 
@@ -84,7 +87,6 @@ find_stops program asked (stop.Module fault) why = why
 find_stops program asked stop.NoEntry why = why
 find_stops program asked (stop.EntryType op) why = why
 find_stops program asked (stop.Args at) why = absurd why
-find_stops program asked (stop.NotYet op) why = why
 find_stops program asked (stop.Short parked) why = why
 find_stops program asked (stop.Objects live) why = why
 find_stops program asked (stop.Tasks live) why = why
@@ -105,7 +107,6 @@ fit_stops program asked function (stop.Module fault) found why = absurd why
 fit_stops program asked function stop.NoEntry found why = absurd why
 fit_stops program asked function (stop.EntryType op) found why = absurd why
 fit_stops program asked function (stop.Args at) found why = (function, record { found = found; fits = why })
-fit_stops program asked function (stop.NotYet op) found why = absurd why
 fit_stops program asked function (stop.Short parked) found why = absurd why
 fit_stops program asked function (stop.Objects live) found why = absurd why
 fit_stops program asked function (stop.Tasks live) found why = absurd why
@@ -131,78 +132,46 @@ pub unfit_stops : (program : Module) (asked : Asked) (function : FuncNo) (params
 unfit_stops program asked function params s found same why =
     fit_stops program asked function s found (subst (λ (ps : List (ValueNo × Ty)). FitStops (map (λ p. p.1) ps) asked.args s) same why)
 
-call_stops : (program : Module) (asked : Asked) (s : Stop) → EntryStops program asked s → CallStops program asked s
-call_stops program asked stop.Words why = why
-call_stops program asked stop.Read why = why
-call_stops program asked (stop.TooLong limit) why = why
-call_stops program asked (stop.Module fault) why = why
-call_stops program asked stop.NoEntry why = why
-call_stops program asked (stop.EntryType op) why = why
-call_stops program asked (stop.Args at) why = why
-call_stops program asked (stop.NotYet op) why = absurd why
-call_stops program asked (stop.Short parked) why = why
-call_stops program asked (stop.Objects live) why = why
-call_stops program asked (stop.Tasks live) why = why
-call_stops program asked (stop.Cells used) why = why
-call_stops program asked (stop.Stack depth) why = why
-call_stops program asked (stop.Group size) why = why
-call_stops program asked (stop.Spent entries) why = why
-call_stops program asked (stop.Write written) why = why
-call_stops program asked stop.OutOfMemory why = why
+-- the code of a compiled module, and its texts
+pub made_of : (options : Options) (program : Module) (compiled : Compiled) (printed : Vec ℕ Global) → IsCompiled options program compiled →
+    printed.items ≡ all_texts compiled.texts → IsMade options true program (record { low = compiled.code; printed = printed })
+made_of options program compiled printed is told = record {
+  low = record { halved = is.halved; split = is.split; is = is.is };
+  printed = (compiled, (is, told));
+}
 
-make_stops : (program : Module) (asked : Asked) (call : EntryCall) (s : Stop) → Names program asked call.function (Fits call.values) →
-    MakeStops program s → CallStops program asked s
-make_stops program asked call stop.Words names why = absurd why
-make_stops program asked call stop.Read names why = absurd why
-make_stops program asked call (stop.TooLong limit) names why = absurd why
-make_stops program asked call (stop.Module fault) names why = absurd why
-make_stops program asked call stop.NoEntry names why = absurd why
-make_stops program asked call (stop.EntryType op) names why = absurd why
-make_stops program asked call (stop.Args at) names why = absurd why
-make_stops program asked call (stop.NotYet op) names why = record { function = call.function; values = call.values; names = names; first = why }
-make_stops program asked call (stop.Short parked) names why = absurd why
-make_stops program asked call (stop.Objects live) names why = absurd why
-make_stops program asked call (stop.Tasks live) names why = absurd why
-make_stops program asked call (stop.Cells used) names why = absurd why
-make_stops program asked call (stop.Stack depth) names why = absurd why
-make_stops program asked call (stop.Group size) names why = absurd why
-make_stops program asked call (stop.Spent entries) names why = absurd why
-make_stops program asked call (stop.Write written) names why = absurd why
-make_stops program asked call stop.OutOfMemory names why = tt
-
-abbrev made_code : LowModule → EntryCall → Code
-made_code low call = record { low = low; function = call.function; values = call.values }
-
--- what the entry and its arguments, and then what is made of the module, make of the whole
-pub finds : (program : Module) (asked : Asked) (s : Stop) → EntryStops program asked s → CallStops program asked s
-finds program asked s why = call_stops program asked s why
-
-pub loads : (program : Module) (asked : Asked) (call : EntryCall) (result : Result Loaded Stop) →
-    Names program asked call.function (Fits call.values) → MatchResult result (λ l. IsMade program call l) (λ s. MakeStops program s) →
-    MatchResult result (λ l. (c : Call) × ((c.program ≡ program) × (IsAsked asked c × IsLoaded c l))) (λ s. CallStops program asked s)
-loads program asked call (Ok l) names made =
-    let c : Call = record { program = program; function = call.function; values = call.values } in
-    let entry : held l ≡ record { low = l.low; function = call.function; values = call.values } =
-    ap (λ (e : EntryCall). made_code l.low e) made.call in (
+-- what is made of the module makes of the whole
+pub loads : (program : Module) (asked : Asked) (options : Options) (print : Bool) (call : EntryCall) (result : Result Loaded Stop) →
+    Names program asked call.function (Fits call.values) →
+    MatchResult result (λ l. IsMadeFor options print program call l) (λ s. s ≡ stop.OutOfMemory) →
+    MatchResult result (λ l. (c : Call) × ((c.program ≡ program) × (IsAsked asked c × IsLoaded options print c l))) (λ s. EntryStops program asked s)
+loads program asked options print call (Ok l) names made =
+    let c : Call = record { program = program; function = call.function; values = call.values } in (
       c,
       (
         refl,
         (
-          record { names = names; whole = made.whole },
+          names,
           record {
-            code = entry ∙ ap (λ low. made_code low call) made.low;
+            code = record {
+              low = made.low;
+              function = ap (λ (e : EntryCall). e.function) made.call;
+              values = ap (λ (e : EntryCall). e.values) made.call;
+            };
             notes = made.notes;
+            printed = made.printed;
           },
         ),
       ),
     )
-loads program asked call (Err s) names made = make_stops program asked call s names made
+loads program asked options print call (Err s) names made = subst (EntryStops program asked) (sym made) tt
 
 -- what a module's call makes of its text
-pub reads : FunctionsStand → (text : List ℕ) (asked : Asked) (program : Module) (result : Result Loaded Stop) → IsAccepted text program →
-    MatchResult result (λ l. (c : Call) × ((c.program ≡ program) × (IsAsked asked c × IsLoaded c l))) (λ s. CallStops program asked s) →
-    MatchResult result (λ l. (c : Call) × (IsCall text asked c × (IsLoaded c l × Stands (held l)))) (λ s. TextStops text asked s)
-reads law text asked program (Ok l) accepted (c, (same, (is, loaded))) =
+pub reads : FunctionsStand → (text : List ℕ) (asked : Asked) (options : Options) (print : Bool) (program : Module) (result : Result Loaded Stop) →
+    IsAccepted text program →
+    MatchResult result (λ l. (c : Call) × ((c.program ≡ program) × (IsAsked asked c × IsLoaded options print c l))) (λ s. EntryStops program asked s) →
+    MatchResult result (λ l. (c : Call) × (IsCall text asked c × (IsLoaded options print c l × Stands (held l)))) (λ s. TextStops text asked s)
+reads law text asked options print program (Ok l) accepted (c, (same, (is, loaded))) =
     let here : IsAccepted text c.program = subst (IsAccepted text) (sym same) accepted in
-    (c, ((here, is), (loaded, entry_stands law asked c l here.1 is loaded)))
-reads law text asked program (Err s) accepted why = inr (program, (accepted, why))
+    (c, ((here, is), (loaded, entry_stands law asked options print c l here.1 is loaded)))
+reads law text asked options print program (Err s) accepted why = inr (program, (accepted, why))

@@ -2,6 +2,7 @@ pub mod Alike
 pub mod Entries
 pub mod Leading
 pub mod Modules
+pub mod OneCode
 pub mod OneRace
 pub mod OneRun
 pub mod Places

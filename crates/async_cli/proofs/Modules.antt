@@ -4,7 +4,6 @@ use Rattle.std.proofs.lemmas.Bool.{cases_order}
 use Rattle.arguments.specs.Fits.{Fitted, Fits, Wrong, fitted_args}
 use Rattle.ir_forms.specs.declared.args.Arg.{Arg}
 use Rattle.ir_forms.specs.declared.args.ArgValue.{ArgValue}
-use Rattle.pass_line.specs.Parallel.{first_parallel}
 use Rattle.ir_forms.specs.declared.ops.Func.{Func}
 use Rattle.ir_forms.specs.declared.ops.Module.{Module}
 use Rattle.ir_forms.specs.declared.runs.FuncNo.{FuncNo}
@@ -26,7 +25,7 @@ use Rattle.async_cli.specs.declared.stops.Stop.TheVariants as stop
 use Rattle.async_cli.specs.declared.stops.ModuleFault.{ModuleFault}
 use Rattle.async_cli.specs.declared.stops.ModuleFault.TheVariants.{Text, Verify}
 use Rattle.async_cli.specs.Answers.{ReadsModule, IsAccepted, ModuleStops, entry_of, types_at, Names, EntryStops}
-use Rattle.async_cli.specs.Calls.{Call, IsAsked, IsCall, CallStops, TextStops}
+use Rattle.async_cli.specs.Calls.{Call, IsAsked, IsCall, TextStops}
 use Rattle.async_cli.specs.Laws.{is_decided}
 use Rattle.async_cli.specs.Words.{Asked}
 
@@ -135,7 +134,6 @@ module_why bytes (stop.TooLong limit) decided why = absurd why
 module_why bytes stop.NoEntry decided why = absurd why
 module_why bytes (stop.EntryType op) decided why = absurd why
 module_why bytes (stop.Args at) decided why = absurd why
-module_why bytes (stop.NotYet op) decided why = absurd why
 module_why bytes (stop.Short parked) decided why = absurd why
 module_why bytes (stop.Objects live) decided why = absurd why
 module_why bytes (stop.Tasks live) decided why = absurd why
@@ -206,7 +204,6 @@ entry_why p asked (stop.Module fault) decided why = absurd why
 entry_why p asked stop.NoEntry decided why = ap (entry_stop p asked.args) why
 entry_why p asked (stop.EntryType op) decided why = ap (entry_stop p asked.args) why
 entry_why p asked (stop.Args at) decided why = named_stop p asked why.0 (Wrong at) why.1
-entry_why p asked (stop.NotYet op) decided why = absurd why
 entry_why p asked (stop.Short parked) decided why = absurd why
 entry_why p asked (stop.Objects live) decided why = absurd why
 entry_why p asked (stop.Tasks live) decided why = absurd why
@@ -230,53 +227,14 @@ one_names p asked f g v w a b =
 
 -- ---- the call
 
-abbrev not_yet : Option ℕ → Option Stop
-not_yet None = None
-not_yet (Some op) = Some (stop.NotYet op)
-
--- why a module has no call that a run can begin with
-abbrev call_stop : Option ℕ → Option Stop → Option Stop
-call_stop op (Some s) = Some s
-call_stop op None = not_yet op
-
-abbrev pub stop_of : Module → Asked → Option Stop
-stop_of p asked = call_stop (first_parallel p) (entry_stop p asked.args (entry_of p asked.entry))
-
-entry_first : (p : Module) (asked : Asked) (s : Stop) → is_decided s ≡ true → EntryStops p asked s → stop_of p asked ≡ Some s
-entry_first p asked s decided why = ap (call_stop (first_parallel p)) (entry_why p asked s decided why)
-
-call_why : (p : Module) (asked : Asked) (s : Stop) → is_decided s ≡ true → CallStops p asked s → stop_of p asked ≡ Some s
-call_why p asked stop.Words decided why = absurd why
-call_why p asked stop.Read decided why = absurd why
-call_why p asked (stop.TooLong limit) decided why = absurd why
-call_why p asked (stop.Module fault) decided why = absurd why
-call_why p asked stop.NoEntry decided why = entry_first p asked stop.NoEntry decided why
-call_why p asked (stop.EntryType op) decided why = entry_first p asked (stop.EntryType op) decided why
-call_why p asked (stop.Args at) decided why = entry_first p asked (stop.Args at) decided why
-call_why p asked (stop.NotYet op) decided why = ap (call_stop (first_parallel p)) (named_stop p asked why.function (Fits why.values) why.names) ∙ ap not_yet why.first
-call_why p asked (stop.Short parked) decided why = absurd why
-call_why p asked (stop.Objects live) decided why = absurd why
-call_why p asked (stop.Tasks live) decided why = absurd why
-call_why p asked (stop.Cells used) decided why = absurd why
-call_why p asked (stop.Stack depth) decided why = absurd why
-call_why p asked (stop.Group size) decided why = absurd why
-call_why p asked (stop.Spent entries) decided why = absurd why
-call_why p asked (stop.Write written) decided why = absurd why
-call_why p asked stop.OutOfMemory decided why = absurd (cc decided)
-
-call_is : (p : Module) (asked : Asked) (function : FuncNo) (values : List ArgValue) → Names p asked function (Fits values) → first_parallel p ≡ None →
-    stop_of p asked ≡ None
-call_is p asked function values names whole =
-    ap (call_stop (first_parallel p)) (named_stop p asked function (Fits values) names) ∙ ap not_yet whole
-
 abbrev call_with : Module → FuncNo → List ArgValue → Call
 call_with p function values = record { program = p; function = function; values = values }
 
 one_call : (asked : Asked) (c d : Call) → d.program ≡ c.program → IsAsked asked c → IsAsked asked d → c ≡ d
 one_call asked c d same a b =
     let here : Names c.program asked d.function (Fits d.values) =
-    subst (λ p. Names p asked d.function (Fits d.values)) same b.names in
-    let both = one_names c.program asked c.function d.function c.values d.values a.names here in
+    subst (λ p. Names p asked d.function (Fits d.values)) same b in
+    let both = one_names c.program asked c.function d.function c.values d.values a here in
     ap (λ p. call_with p c.function c.values) (sym same) ∙ ap (λ f. call_with d.program f c.values) both.0
     ∙ ap (call_with d.program d.function) both.1
 
@@ -292,8 +250,8 @@ call_not_stopped law bytes asked c s a s_is b =
       | inl why ↦ accepted_stays law bytes c.program s s_is a.0 why
       | inr why ↦
           let same : why.0 ≡ c.program = one_accepted law bytes why.0 c.program why.1.0 a.0 in
-          let stopped = call_why c.program asked s s_is (subst (λ m. CallStops m asked s) same why.1.1) in
-          let both : None ≡ Some s = sym (call_is c.program asked c.function c.values a.1.names a.1.whole) ∙ stopped in
+          let stopped = entry_why c.program asked s s_is (subst (λ m. EntryStops m asked s) same why.1.1) in
+          let both : None ≡ Some s = sym (named_stop c.program asked c.function (Fits c.values) a.1) ∙ stopped in
           cc both
     ]
 
@@ -312,8 +270,8 @@ calls_alike law bytes asked (Err s) (Err t) a b =
         | inl also ↦ absurd (accepted_stays law bytes why.0 t b.0 why.1.0 also)
         | inr also ↦
             let same : also.0 ≡ why.0 = one_accepted law bytes also.0 why.0 also.1.0 why.1.0 in
-            let first = call_why why.0 asked s a.0 why.1.1 in
-            let second = call_why why.0 asked t b.0 (subst (λ m. CallStops m asked t) same also.1.1) in
+            let first = entry_why why.0 asked s a.0 why.1.1 in
+            let second = entry_why why.0 asked t b.0 (subst (λ m. EntryStops m asked t) same also.1.1) in
             let both : Some s ≡ Some t = sym first ∙ second in
             let stops : s ≡ t = cc both in
             ap Err stops

@@ -37,7 +37,7 @@ alike (x ∷ m) (y ∷ n) same there back = by x y (there zero) (back zero) (ali
 marked : (graph : List (List Call)) (m n : List Bool) → AreMarks graph m → AreMarks graph n → (k : ℕ) → slice_get m k ≡ Some true → slice_get n k ≡ Some true
 marked graph m n a b k is = let within = in_range m k true is in let each = a.each in b.complete k (a.sound k is) (omega (arith, within, each))
 
-one_marks : (graph : List (List Call)) (m n : List Bool) → AreMarks graph m → AreMarks graph n → m ≡ n
+pub one_marks : (graph : List (List Call)) (m n : List Bool) → AreMarks graph m → AreMarks graph n → m ≡ n
 one_marks graph m n a b = alike m n (a.each ∙ sym b.each) (marked graph m n a b) (marked graph n m b a)
 
 abbrev program_with : List Func → List Bool → List (List ValueNo) → Program

@@ -1,10 +1,9 @@
 -- How the parts of a call make its answer.
-use Rattle.std.proofs.Common.{◌≡◌, ◌≤◌, ℕ, Bool, true, false, if◌then◌else◌, List, [], ◌∷◌, length, option_and_then, Option, Some, None, Result, Ok, Err, MatchResult, Vec, Global, refl, sym, ap, subst, inr, ◌∙◌}
+use Rattle.std.proofs.Common.{◌≡◌, ◌≤◌, ℕ, Bool, true, false, if◌then◌else◌, List, [], ◌∷◌, ◌++◌, length, option_and_then, Option, Some, None, Result, Ok, Err, MatchResult, Vec, Global, refl, sym, ap, subst, inr, ◌∙◌}
 use Rattle.aio_base.specs.Whole.{Told}
 use Rattle.ir_forms.specs.declared.ops.Module.{Module}
 use Rattle.step_core.specs.declared.ends.Entry.{Entry}
 use Rattle.run_report.specs.declared.note_list.Note.{Note}
-use Rattle.run_report.specs.Notes.{notes_of}
 use Rattle.async_cli.specs.declared.calls.Loaded.{Loaded}
 use Rattle.async_cli.specs.declared.stops.Stop.{Stop}
 use Rattle.async_cli.specs.declared.stops.Stop.TheVariants.{Words, OutOfMemory}
@@ -18,19 +17,25 @@ use Rattle.async_cli.specs.declared.serving.End.{End}
 use Rattle.async_cli.specs.Words.{Asked, AsksFor, AsksNot, asked_of, asked_in, command_of, with_options, are_allowed, entry_in, entry_asked, or_else}
 use Rattle.async_cli.specs.Stops.{status_after, stop_status, stop_text, tool_status, tool_text}
 use Rattle.async_cli.specs.Answers.{Given, Gave, text_limit, IsInput, IsAccepted, IsWritten}
-use Rattle.async_cli.specs.Calls.{Call, IsCall, IsLoaded, Code, code_of, held, Stands}
-use Rattle.async_cli.specs.Checks.{CheckEnds, CheckCauses, accepted_line}
+use Rattle.async_cli.specs.Calls.{Call, IsCall, IsLoaded, Code, held, Stands}
+use Rattle.async_cli.specs.Checks.{Accepts, CheckCauses}
 use Rattle.async_cli.specs.Inputs.{input_limit, IsSplit}
 use Rattle.async_cli.specs.Replays.{IsGiven, AreLines, EntryListStops, JournalStops, IsReplayed, ReplayCauses, ReplayEnds}
 use Rattle.async_cli.specs.Tools.{ToolOwes, ToolAnswers, CommandEnds, CommandCauses}
-use Rattle.async_cli.specs.Runs.{Enters, Finishes, RunStops, Causes, Ends, Answers, stop_after}
+use Rattle.async_cli.specs.Runs.{Enters, Finishes, Ran, RunStops, Causes, Ends, Answers, stop_after}
 
 -- what is told of the code of a call is told of the call
-ends_of : (c : Call) (l : Loaded) (flags : Flags) (journal : List Entry) (status : ℕ) (text : List ℕ) → IsLoaded c l →
-    Finishes (held l) l.notes flags journal status text → Finishes (code_of c) (notes_of c.program) flags journal status text
-ends_of c l flags journal status text is ends =
-    subst (λ n. Finishes (code_of c) n flags journal status text) is.notes
-    (subst (λ k. Finishes k l.notes flags journal status text) is.code ends)
+ran_of : (asked : Asked) (c : Call) (l : Loaded) (journal : List Entry) (status : ℕ) (text : List ℕ) → IsLoaded asked.options asked.flags.print c l →
+    (end : List ℕ) × (Finishes (held l) l.notes asked.flags journal status end × (text ≡ l.printed.items ++ end)) → Ran asked c journal status text
+ran_of asked c l journal status text is ends = record {
+  code = held l;
+  is = is.code;
+  printed = l.printed.items;
+  texts = is.printed;
+  end = ends.0;
+  finishes = subst (λ n. Finishes (held l) n asked.flags journal status ends.0) is.notes ends.1.0;
+  told = ends.1.1;
+}
 
 enters : (given : Given) (asked : Asked) (text : List ℕ) (c : Call) → AsksFor Run given.words asked → IsInput text_limit given.source text →
     (shown : List ℕ) → shown ≡ text → IsCall shown asked c → Enters given asked c
@@ -40,8 +45,9 @@ enters given asked text c asks input shown same is =
 -- what the run of a call makes of the whole
 pub ran : (given : Given) (asked : Asked) (text : List ℕ) (l : Loaded) (journal : List Entry) (result : Result End Stop) →
     AsksFor Run given.words asked → IsInput text_limit given.source text → (shown : List ℕ) → shown ≡ text →
-    (c : Call) × (IsCall shown asked c × (IsLoaded c l × Stands (held l))) →
-    MatchResult result (λ end. Finishes (held l) l.notes asked.flags journal end.status end.text.items)
+    (c : Call) × (IsCall shown asked c × (IsLoaded asked.options asked.flags.print c l × Stands (held l))) →
+    MatchResult result
+    (λ end. (text : List ℕ) × (Finishes (held l) l.notes asked.flags journal end.status text × (end.text.items ≡ l.printed.items ++ text)))
     (λ stop. RunStops (held l) asked.bounds journal stop) →
     MatchResult result (λ end. Ends given journal end.status end.text.items) (λ stop. Causes given journal stop)
 ran given asked text l journal (Ok end) asks input shown same found runs = (
@@ -50,13 +56,12 @@ ran given asked text l journal (Ok end) asks input shown same found runs = (
     found.0,
     (
       enters given asked text found.0 asks input shown same found.1.0,
-      ends_of found.0 l asked.flags journal end.status end.text.items found.1.1.0 runs,
+      ran_of asked found.0 l journal end.status end.text.items found.1.1.0 runs,
     ),
   ),
 )
 ran given asked text l journal (Err stop) asks input shown same found runs =
-    Causes.run stop asked found.0 (enters given asked text found.0 asks input shown same found.1.0)
-    (subst (λ k. RunStops k asked.bounds journal stop) found.1.1.0.code runs)
+    Causes.run stop asked found.0 (held l) (enters given asked text found.0 asks input shown same found.1.0) found.1.1.0.code runs
 
 -- words that ask for another command, or for none
 pub asks_other : (words : List (List ℕ)) (other : Asked) → Some other ≡ asked_of words → (other.command ≡ Run → ⊥) → AsksNot Run words
@@ -115,7 +120,8 @@ journaled c notes flags journal entries shown (Err stop) lines same ends =
 
 -- what the replay of a journal makes of the whole
 pub replayed : (source : Told) (asked : Asked) (text : List ℕ) (journal : Option (List ℕ)) (l : Loaded) (result : Result End ToolStop) →
-    IsGiven source text journal → length text ≤ text_limit → (c : Call) × (IsCall text asked c × (IsLoaded c l × Stands (held l))) →
+    IsGiven source text journal → length text ≤ text_limit →
+    (c : Call) × (IsCall text asked c × (IsLoaded asked.options false c l × Stands (held l))) →
     MatchResult result (λ end. (entries : List Entry) × (AreLines journal entries
     × IsReplayed (held l) l.notes asked.flags entries end.status end.text.items)) (λ stop. JournalStops (held l) journal stop) →
     MatchResult result (λ end. ReplayEnds source asked end.status end.text.items) (λ stop. ReplayCauses source asked stop)
@@ -123,34 +129,33 @@ replayed source asked text journal l (Ok end) given within found ends = record {
   program = text;
   journal = journal;
   c = found.0;
+  code = held l;
   entries = ends.0;
   was_given = given;
   within = within;
   is = found.1.0;
+  code_is = found.1.1.0.code;
   lines = ends.1.0;
-  replayed =
-      subst (λ n. IsReplayed (code_of found.0) n asked.flags ends.0 end.status end.text.items) found.1.1.0.notes
-      (subst (λ k. IsReplayed k l.notes asked.flags ends.0 end.status end.text.items) found.1.1.0.code ends.1.1);
+  replayed = subst (λ n. IsReplayed (held l) n asked.flags ends.0 end.status end.text.items) found.1.1.0.notes ends.1.1;
 }
 replayed source asked text journal l (Err stop) given within found ends =
-    ReplayCauses.no_run stop text journal found.0 given within found.1.0
-    (subst (λ k. JournalStops k journal stop) found.1.1.0.code ends)
+    ReplayCauses.no_run stop text journal found.0 (held l) given within found.1.0 found.1.1.0.code ends
 
--- ---- `check`
+-- ---- `check` and `compile`
 
--- what the line of an accepted module makes of the whole call
-pub checked : (source : Told) (bytes shown : List ℕ) (program seen : Module) (result : Result (Vec ℕ Global) ToolStop) →
+-- what is told of an accepted module makes of the whole call
+pub accepts : (Tells : Module → List ℕ → Type 0) (source : Told) (bytes shown : List ℕ) (program seen : Module) (result : Result (Vec ℕ Global) ToolStop) →
     IsInput text_limit source bytes → shown ≡ bytes → IsAccepted shown program → seen ≡ program →
-    MatchResult result (λ t. t.items ≡ accepted_line seen) (λ stop. stop ≡ Shared OutOfMemory) →
-    MatchResult result (λ t. CheckEnds source t.items) (λ stop. CheckCauses source stop)
-checked source bytes shown program seen (Ok text) input same accepted is told = record {
+    MatchResult result (λ t. Tells seen t.items) (λ stop. stop ≡ Shared OutOfMemory) →
+    MatchResult result (λ t. Accepts Tells source t.items) (λ stop. CheckCauses source stop)
+accepts Tells source bytes shown program seen (Ok text) input same accepted is told = record {
   bytes = bytes;
   program = program;
   input = input;
   accepted = subst (λ b. IsAccepted b program) same accepted;
-  told = told ∙ ap accepted_line is;
+  told = subst (λ p. Tells p text.items) is told;
 }
-checked source bytes shown program seen (Err stop) input same accepted is told =
+accepts Tells source bytes shown program seen (Err stop) input same accepted is told =
     subst (CheckCauses source) (sym told) (CheckCauses.input OutOfMemory tt)
 
 -- ---- `tool`

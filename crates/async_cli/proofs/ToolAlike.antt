@@ -13,9 +13,9 @@ use Rattle.async_cli.specs.declared.stops.Stop.TheVariants as stop
 use Rattle.async_cli.specs.declared.tool_stops.ToolStop.{ToolStop}
 use Rattle.async_cli.specs.declared.tool_stops.ToolStop.TheVariants.{Shared, BadLine, NotARun, Unfinished}
 use Rattle.async_cli.specs.declared.words.Command.{Command}
-use Rattle.async_cli.specs.declared.words.Command.TheVariants.{Check, Run, Source, Replay}
+use Rattle.async_cli.specs.declared.words.Command.TheVariants.{Check, Compile, Run, Source, Replay}
 use Rattle.async_cli.specs.Words.{Asked, asked_of}
-use Rattle.async_cli.specs.Checks.{CheckEnds, CheckCauses, accepted_line}
+use Rattle.async_cli.specs.Checks.{Accepts, IsSize, CheckCauses}
 use Rattle.async_cli.specs.Inputs.{input_limit, is_heading, IsSplit}
 use Rattle.async_cli.specs.Laws.{is_decided, IsDecided, ToolOwesOne}
 use Rattle.ir_forms.specs.declared.runs.FuncNo.{FuncNo}
@@ -35,12 +35,13 @@ use Rattle.step_core.specs.declared.ends.Entry.{Entry}
 use Rattle.step_core.specs.Core.{Core}
 use Rattle.step_core.specs.Runs.{IsFinished, and_then}
 use Rattle.async_cli.specs.Answers.{Given, text_limit, IsAccepted, ModuleStops, entry_of, EntryStops}
-use Rattle.async_cli.specs.Calls.{Call, Code, code_of}
+use Rattle.async_cli.specs.Calls.{Call, Code, IsCodeOf, IsListing}
 use Rattle.async_cli.specs.Replays.{IsGiven, AreLines, LineStops, EntryListStops, JournalStops, IsReplayed, ReplaysTo, replay_limits, first_bad, ReplayCauses, ReplayEnds}
 use Rattle.async_cli.specs.Runs.{start_of}
 use Rattle.async_cli.specs.Sources.{IsRace, IsReported, SourceEnds, SourceCauses}
 use Rattle.async_cli.proofs.Modules.{CallGives, calls_alike, entry_stop, entry_why, named_stop, one_names, stops_alike, accepted_stays, one_accepted}
 use Rattle.async_cli.proofs.Alike.{input_gives, input_stops, one_text, one_asked}
+use Rattle.async_cli.proofs.OneCode.{one_code, one_listing}
 
 -- a cause that what is given decides
 abbrev pub is_decided_cause : ToolStop → Bool
@@ -53,20 +54,25 @@ is_decided_cause (Unfinished entries) = true
 abbrev Reported : Type 0
 Reported = Result (ℕ × List ℕ) ToolStop
 
--- ---- `check`
+-- ---- `check` and `compile`
 
--- the bytes are no text of a module that breaks no rule, or the line tells its size
-abbrev ModuleGives : List ℕ → Result (List ℕ) ToolStop → Type 0
-ModuleGives bytes r =
+-- what is told of a module is one text
+abbrev OneTold : (Module → List ℕ → Type 0) → Type 0
+OneTold Tells = (p : Module) (s t : List ℕ) → Tells p s → Tells p t → s ≡ t
+
+-- the bytes are no text of a module that breaks no rule, or the text tells of it
+abbrev ModuleGives : (Module → List ℕ → Type 0) → List ℕ → Result (List ℕ) ToolStop → Type 0
+ModuleGives Tells bytes r =
     ((s : Stop) × ((is_decided s ≡ true) × (ModuleStops bytes s × (r ≡ Err (Shared s)))))
-    ⊎ ((p : Module) × (IsAccepted bytes p × (r ≡ Ok (accepted_line p))))
+    ⊎ ((p : Module) × (IsAccepted bytes p × ((t : List ℕ) × (Tells p t × (r ≡ Ok t)))))
 
-abbrev CheckGives : List ℕ → Result (List ℕ) ToolStop → Type 0
-CheckGives bytes r =
-    ((text_limit < length bytes) × (r ≡ Err (Shared (stop.TooLong text_limit)))) ⊎ ((length bytes ≤ text_limit) × ModuleGives bytes r)
+abbrev CheckGives : (Module → List ℕ → Type 0) → List ℕ → Result (List ℕ) ToolStop → Type 0
+CheckGives Tells bytes r =
+    ((text_limit < length bytes) × (r ≡ Err (Shared (stop.TooLong text_limit)))) ⊎ ((length bytes ≤ text_limit) × ModuleGives Tells bytes r)
 
-modules_alike : OneAnswer → (bytes : List ℕ) (r q : Result (List ℕ) ToolStop) → ModuleGives bytes r → ModuleGives bytes q → r ≡ q
-modules_alike law bytes r q a b =
+modules_alike : (Tells : Module → List ℕ → Type 0) → OneTold Tells → OneAnswer → (bytes : List ℕ) (r q : Result (List ℕ) ToolStop) →
+    ModuleGives Tells bytes r → ModuleGives Tells bytes q → r ≡ q
+modules_alike Tells one law bytes r q a b =
     elim a [
       | inl x ↦ elim b [
         | inl y ↦
@@ -75,36 +81,46 @@ modules_alike law bytes r q a b =
       ]
       | inr x ↦ elim b [
         | inl y ↦ absurd (accepted_stays law bytes x.0 y.0 y.1.0 x.1.0 y.1.1.0)
-        | inr y ↦ x.1.1 ∙ ap (λ p. Ok (accepted_line p)) (one_accepted law bytes x.0 y.0 x.1.0 y.1.0) ∙ sym y.1.1
+        | inr y ↦
+            let same : y.0 ≡ x.0 = one_accepted law bytes y.0 x.0 y.1.0 x.1.0 in
+            let tells = subst (λ p. Tells p y.1.1.0) same y.1.1.1.0 in
+            x.1.1.1.1 ∙ ap (λ (t : List ℕ). Ok t) (one x.0 x.1.1.0 y.1.1.0 x.1.1.1.0 tells) ∙ sym y.1.1.1.1
       ]
     ]
 
-checks_alike : OneAnswer → (bytes : List ℕ) (r q : Result (List ℕ) ToolStop) → CheckGives bytes r → CheckGives bytes q → r ≡ q
-checks_alike law bytes r q a b =
+checks_alike : (Tells : Module → List ℕ → Type 0) → OneTold Tells → OneAnswer → (bytes : List ℕ) (r q : Result (List ℕ) ToolStop) →
+    CheckGives Tells bytes r → CheckGives Tells bytes q → r ≡ q
+checks_alike Tells one law bytes r q a b =
     elim a [
       | inl x ↦ elim b [ inl y ↦ x.1 ∙ sym y.1 | inr y ↦ absurd (omega (arith, x.0, y.0)) ]
-      | inr x ↦ elim b [ inl y ↦ absurd (omega (arith, y.0, x.0)) | inr y ↦ modules_alike law bytes r q x.1 y.1 ]
+      | inr x ↦ elim b [ inl y ↦ absurd (omega (arith, y.0, x.0)) | inr y ↦ modules_alike Tells one law bytes r q x.1 y.1 ]
     ]
 
-check_ends : (source : Told) (bytes text : List ℕ) → source.left ≡ Some bytes → CheckEnds source text → CheckGives bytes (Ok text)
-check_ends source bytes text told ends =
+check_ends : (Tells : Module → List ℕ → Type 0) (source : Told) (bytes text : List ℕ) → source.left ≡ Some bytes → Accepts Tells source text →
+    CheckGives Tells bytes (Ok text)
+check_ends Tells source bytes text told ends =
     let read = input_gives text_limit source bytes ends.bytes told ends.input in
-    inr (read.1, inr (ends.program, (subst (λ b. IsAccepted b ends.program) read.0 ends.accepted, ap Ok ends.told)))
+    inr (read.1, inr (ends.program, (subst (λ b. IsAccepted b ends.program) read.0 ends.accepted, (text, (ends.told, refl)))))
 
-check_stops : (source : Told) (bytes : List ℕ) (cause : ToolStop) → source.left ≡ Some bytes → is_decided_cause cause ≡ true →
-    CheckCauses source cause → CheckGives bytes (Err cause)
-check_stops source bytes _ told decided (CheckCauses.input s why) =
+check_stops : (Tells : Module → List ℕ → Type 0) (source : Told) (bytes : List ℕ) (cause : ToolStop) → source.left ≡ Some bytes →
+    is_decided_cause cause ≡ true → CheckCauses source cause → CheckGives Tells bytes (Err cause)
+check_stops Tells source bytes _ told decided (CheckCauses.input s why) =
     let input = input_stops text_limit source bytes s told decided why in inl (input.1, ap (λ s. Err (Shared s)) input.0)
-check_stops source bytes _ told decided (CheckCauses.no_module s all input why) =
+check_stops Tells source bytes _ told decided (CheckCauses.no_module s all input why) =
     let read = input_gives text_limit source bytes all told input in
     inr (read.1, inl (s, (decided, (subst (λ b. ModuleStops b s) read.0 why, refl))))
+
+one_size : OneTold IsSize
+one_size p s t a b = a ∙ sym b
 
 -- ---- `replay`
 
 -- what the entries of a journal give
 abbrev EntriesGive : Call → Asked → List Entry → Reported → Type 0
-EntriesGive c asked entries (Ok told) = IsReplayed (code_of c) (notes_of c.program) asked.flags entries told.0 told.1
-EntriesGive c asked entries (Err cause) = (is_decided_cause cause ≡ true) × EntryListStops (code_of c) entries cause
+EntriesGive c asked entries (Ok told) =
+    (code : Code) × (IsCodeOf asked.options c code × IsReplayed code (notes_of c.program) asked.flags entries told.0 told.1)
+EntriesGive c asked entries (Err cause) =
+    (is_decided_cause cause ≡ true) × ((code : Code) × (IsCodeOf asked.options c code × EntryListStops code entries cause))
 
 abbrev LinesGive : Option (List ℕ) → Call → Asked → Reported → Type 0
 LinesGive journal c asked r =
@@ -161,7 +177,6 @@ list_why c entries (Shared (stop.Module fault)) decided why = absurd why
 list_why c entries (Shared stop.NoEntry) decided why = absurd why
 list_why c entries (Shared (stop.EntryType op)) decided why = absurd why
 list_why c entries (Shared (stop.Args at)) decided why = absurd why
-list_why c entries (Shared (stop.NotYet op)) decided why = absurd why
 list_why c entries (Shared (stop.Short parked)) decided why = absurd why
 list_why c entries (Shared (stop.Objects live)) decided why = absurd why
 list_why c entries (Shared (stop.Tasks live)) decided why = absurd why
@@ -205,14 +220,22 @@ causes_alike laws c entries s t a b =
 entries_run_alike : Journals → (c : Call) (asked : Asked) (entries : List Entry) (r q : Reported) →
     EntriesGive c asked entries r → EntriesGive c asked entries q → r ≡ q
 entries_run_alike laws c asked entries (Ok t) (Ok u) a b =
-    let one = one_text (code_of c) (notes_of c.program) asked.flags entries t.0 u.0 t.1 u.1 a.finishes b.finishes in
+    let same : b.0 ≡ a.0 = one_code asked.options c b.0 a.0 b.1.0 a.1.0 in
+    let there = subst (λ k. IsReplayed k (notes_of c.program) asked.flags entries u.0 u.1) same b.1.1 in
+    let one = one_text a.0 (notes_of c.program) asked.flags entries t.0 u.0 t.1 u.1 a.1.1.finishes there.finishes in
     ap (λ n. Ok (n, t.1)) one.0 ∙ ap (λ l. Ok (u.0, l)) one.1
 entries_run_alike laws c asked entries (Ok t) (Err s) a b =
-    absurd (ends_stay laws (code_of c) (notes_of c.program) asked entries t.0 t.1 s a (list_why (code_of c) entries s b.0 b.1))
+    let same : b.1.0 ≡ a.0 = one_code asked.options c b.1.0 a.0 b.1.1.0 a.1.0 in
+    let stops = subst (λ k. EntryListStops k entries s) same b.1.1.1 in
+    absurd (ends_stay laws a.0 (notes_of c.program) asked entries t.0 t.1 s a.1.1 (list_why a.0 entries s b.0 stops))
 entries_run_alike laws c asked entries (Err s) (Ok t) a b =
-    absurd (ends_stay laws (code_of c) (notes_of c.program) asked entries t.0 t.1 s b (list_why (code_of c) entries s a.0 a.1))
+    let same : a.1.0 ≡ b.0 = one_code asked.options c a.1.0 b.0 a.1.1.0 b.1.0 in
+    let stops = subst (λ k. EntryListStops k entries s) same a.1.1.1 in
+    absurd (ends_stay laws b.0 (notes_of c.program) asked entries t.0 t.1 s b.1.1 (list_why b.0 entries s a.0 stops))
 entries_run_alike laws c asked entries (Err s) (Err t) a b =
-    ap Err (causes_alike laws (code_of c) entries s t (list_why (code_of c) entries s a.0 a.1) (list_why (code_of c) entries t b.0 b.1))
+    let same : b.1.0 ≡ a.1.0 = one_code asked.options c b.1.0 a.1.0 b.1.1.0 a.1.1.0 in
+    let stops = subst (λ k. EntryListStops k entries t) same b.1.1.1 in
+    ap Err (causes_alike laws a.1.0 entries s t (list_why a.1.0 entries s a.0 a.1.1.1) (list_why a.1.0 entries t b.0 stops))
 
 -- the first line that is no entry
 abbrev LineWhy : Option (List ℕ) → ToolStop → Type 0
@@ -230,7 +253,6 @@ line_why None (Shared (stop.Module fault)) decided why = absurd why
 line_why None (Shared stop.NoEntry) decided why = absurd why
 line_why None (Shared (stop.EntryType op)) decided why = absurd why
 line_why None (Shared (stop.Args at)) decided why = absurd why
-line_why None (Shared (stop.NotYet op)) decided why = absurd why
 line_why None (Shared (stop.Short parked)) decided why = absurd why
 line_why None (Shared (stop.Objects live)) decided why = absurd why
 line_why None (Shared (stop.Tasks live)) decided why = absurd why
@@ -250,7 +272,6 @@ line_why (Some lines) (Shared (stop.Module fault)) decided why = absurd why
 line_why (Some lines) (Shared stop.NoEntry) decided why = absurd why
 line_why (Some lines) (Shared (stop.EntryType op)) decided why = absurd why
 line_why (Some lines) (Shared (stop.Args at)) decided why = absurd why
-line_why (Some lines) (Shared (stop.NotYet op)) decided why = absurd why
 line_why (Some lines) (Shared (stop.Short parked)) decided why = absurd why
 line_why (Some lines) (Shared (stop.Objects live)) decided why = absurd why
 line_why (Some lines) (Shared (stop.Tasks live)) decided why = absurd why
@@ -387,16 +408,19 @@ given_parts source bytes text journal asked r told given gives =
     let read = input_gives input_limit source bytes given.bytes told given.input in
     inr (read.1, (text, (journal, (subst (λ b. IsSplit b text journal) read.0 given.parts, gives))))
 
-journal_stops : (journal : Option (List ℕ)) (c : Call) (asked : Asked) (cause : ToolStop) → is_decided_cause cause ≡ true →
-    JournalStops (code_of c) journal cause → LinesGive journal c asked (Err cause)
-journal_stops journal c asked cause decided why =
-    elim why [ inl lines ↦ inl (cause, (decided, (lines, refl))) | inr entries ↦ inr (entries.0, (entries.1.0, (decided, entries.1.1))) ]
+journal_stops : (journal : Option (List ℕ)) (c : Call) (code : Code) (asked : Asked) (cause : ToolStop) → is_decided_cause cause ≡ true →
+    IsCodeOf asked.options c code → JournalStops code journal cause → LinesGive journal c asked (Err cause)
+journal_stops journal c code asked cause decided is why =
+    elim why [
+      | inl lines ↦ inl (cause, (decided, (lines, refl)))
+      | inr entries ↦ inr (entries.0, (entries.1.0, (decided, (code, (is, entries.1.1)))))
+    ]
 
 replay_ends : (source : Told) (bytes : List ℕ) (asked : Asked) (status : ℕ) (text : List ℕ) → source.left ≡ Some bytes →
     ReplayEnds source asked status text → ReplayGives bytes asked (Ok (status, text))
 replay_ends source bytes asked status text told ends =
     given_parts source bytes ends.program ends.journal asked (Ok (status, text)) told ends.was_given
-    (inr (ends.within, inr (ends.c, (ends.is, inr (ends.entries, (ends.lines, ends.replayed))))))
+    (inr (ends.within, inr (ends.c, (ends.is, inr (ends.entries, (ends.lines, (ends.code, (ends.code_is, ends.replayed))))))))
 
 replay_stops : (source : Told) (bytes : List ℕ) (asked : Asked) (cause : ToolStop) → source.left ≡ Some bytes →
     is_decided_cause cause ≡ true → ReplayCauses source asked cause → ReplayGives bytes asked (Err cause)
@@ -406,8 +430,8 @@ replay_stops source bytes asked _ told decided (ReplayCauses.long_text text jour
     given_parts source bytes text journal asked _ told given (inl (long, refl))
 replay_stops source bytes asked _ told decided (ReplayCauses.no_call s text journal given within why) =
     given_parts source bytes text journal asked _ told given (inr (within, inl (s, ((decided, why), refl))))
-replay_stops source bytes asked cause told decided (ReplayCauses.no_run s text journal c given within is why) =
-    given_parts source bytes text journal asked _ told given (inr (within, inr (c, (is, journal_stops journal c asked cause decided why))))
+replay_stops source bytes asked cause told decided (ReplayCauses.no_run s text journal c code given within is code_is why) =
+    given_parts source bytes text journal asked _ told given (inr (within, inr (c, (is, journal_stops journal c code asked cause decided code_is why))))
 
 -- ---- `source`
 
@@ -515,28 +539,37 @@ with_zero (Ok text) = Ok (0, text)
 with_zero (Err cause) = Err cause
 
 abbrev CommandGives : Command → List ℕ → Asked → Reported → Type 0
-CommandGives Check bytes asked r = (q : Result (List ℕ) ToolStop) × (CheckGives bytes q × (r ≡ with_zero q))
+CommandGives Check bytes asked r = (q : Result (List ℕ) ToolStop) × (CheckGives IsSize bytes q × (r ≡ with_zero q))
+CommandGives Compile bytes asked r = (q : Result (List ℕ) ToolStop) × (CheckGives (IsListing asked.options) bytes q × (r ≡ with_zero q))
 CommandGives Replay bytes asked r = ReplayGives bytes asked r
 CommandGives Source bytes asked r = SourceGives bytes asked r
 CommandGives Run bytes asked r = r ≡ Err (Shared stop.Words)
 
 commands_alike : Journals → OneAnswer → (command : Command) (bytes : List ℕ) (asked : Asked) (r q : Reported) →
     CommandGives command bytes asked r → CommandGives command bytes asked q → r ≡ q
-commands_alike laws law Check bytes asked r q a b = a.1.1 ∙ ap with_zero (checks_alike law bytes a.0 b.0 a.1.0 b.1.0) ∙ sym b.1.1
+commands_alike laws law Check bytes asked r q a b =
+    a.1.1 ∙ ap with_zero (checks_alike IsSize one_size law bytes a.0 b.0 a.1.0 b.1.0) ∙ sym b.1.1
+commands_alike laws law Compile bytes asked r q a b =
+    a.1.1 ∙ ap with_zero (checks_alike (IsListing asked.options) (one_listing asked.options) law bytes a.0 b.0 a.1.0 b.1.0) ∙ sym b.1.1
 commands_alike laws law Replay bytes asked r q a b = replays_alike laws law bytes asked r q a b
 commands_alike laws law Source bytes asked r q a b = sources_alike law bytes asked r q a b
 commands_alike laws law Run bytes asked r q a b = a ∙ sym b
 
 command_ends : (command : Command) (source : Told) (bytes : List ℕ) (asked : Asked) (status : ℕ) (text : List ℕ) → source.left ≡ Some bytes →
     CommandEnds command source asked status text → CommandGives command bytes asked (Ok (status, text))
-command_ends Check source bytes asked status text told ends = (Ok text, (check_ends source bytes text told ends.1, ap (λ n. Ok (n, text)) ends.0))
+command_ends Check source bytes asked status text told ends =
+    (Ok text, (check_ends IsSize source bytes text told ends.1, ap (λ n. Ok (n, text)) ends.0))
+command_ends Compile source bytes asked status text told ends =
+    (Ok text, (check_ends (IsListing asked.options) source bytes text told ends.1, ap (λ n. Ok (n, text)) ends.0))
 command_ends Replay source bytes asked status text told ends = replay_ends source bytes asked status text told ends
 command_ends Source source bytes asked status text told ends = source_ends source bytes asked status text told ends
 command_ends Run source bytes asked status text told ends = absurd ends
 
 command_stops : (command : Command) (source : Told) (bytes : List ℕ) (asked : Asked) (cause : ToolStop) → source.left ≡ Some bytes →
     is_decided_cause cause ≡ true → CommandCauses command source asked cause → CommandGives command bytes asked (Err cause)
-command_stops Check source bytes asked cause told decided why = (Err cause, (check_stops source bytes cause told decided why, refl))
+command_stops Check source bytes asked cause told decided why = (Err cause, (check_stops IsSize source bytes cause told decided why, refl))
+command_stops Compile source bytes asked cause told decided why =
+    (Err cause, (check_stops (IsListing asked.options) source bytes cause told decided why, refl))
 command_stops Replay source bytes asked cause told decided why = replay_stops source bytes asked cause told decided why
 command_stops Source source bytes asked cause told decided why = source_stops source bytes asked cause told decided why
 command_stops Run source bytes asked cause told decided why = ap Err why
@@ -555,7 +588,6 @@ cause_decided (Shared (stop.Module fault)) is = refl
 cause_decided (Shared stop.NoEntry) is = refl
 cause_decided (Shared (stop.EntryType op)) is = refl
 cause_decided (Shared (stop.Args at)) is = refl
-cause_decided (Shared (stop.NotYet op)) is = refl
 cause_decided (Shared (stop.Short parked)) is = refl
 cause_decided (Shared (stop.Objects live)) is = refl
 cause_decided (Shared (stop.Tasks live)) is = refl

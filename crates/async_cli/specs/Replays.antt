@@ -20,7 +20,7 @@ use Rattle.async_cli.specs.declared.tool_stops.ToolStop.TheVariants.{Shared, Bad
 use Rattle.async_cli.specs.declared.words.Flags.{Flags}
 use Rattle.async_cli.specs.Words.{Asked}
 use Rattle.async_cli.specs.Answers.{text_limit, IsInput, InputStops}
-use Rattle.async_cli.specs.Calls.{Call, IsCall, TextStops, Code, code_of}
+use Rattle.async_cli.specs.Calls.{Call, IsCall, TextStops, Code, IsCodeOf}
 use Rattle.async_cli.specs.Inputs.{input_limit, IsSplit}
 use Rattle.async_cli.specs.Runs.{start_of, Finishes}
 
@@ -76,17 +76,20 @@ pub data ReplayCauses (source : Told) (asked : Asked) : ToolStop → Type 0 wher
       → ReplayCauses source asked (Shared (stop.TooLong text_limit))
   no_call : (cause : Stop) (text : List ℕ) (journal : Option (List ℕ)) → IsGiven source text journal → length text ≤ text_limit
       → TextStops text asked cause → ReplayCauses source asked (Shared cause)
-  no_run : (cause : ToolStop) (text : List ℕ) (journal : Option (List ℕ)) (c : Call) → IsGiven source text journal
-      → length text ≤ text_limit → IsCall text asked c → JournalStops (code_of c) journal cause → ReplayCauses source asked cause
+  no_run : (cause : ToolStop) (text : List ℕ) (journal : Option (List ℕ)) (c : Call) (code : Code) → IsGiven source text journal
+      → length text ≤ text_limit → IsCall text asked c → IsCodeOf asked.options c code → JournalStops code journal cause
+      → ReplayCauses source asked cause
 
 -- What was read is the text of a module with the call that is asked for, and the journal of a finished run of it.
 pub record ReplayEnds (source : Told) (asked : Asked) (status : ℕ) (text : List ℕ) : Type 0 where
   pub program : List ℕ
   pub journal : Option (List ℕ)
   pub c : Call
+  pub code : Code
   pub entries : List Entry
   pub was_given : IsGiven source program journal
   pub within : length program ≤ text_limit
   pub is : IsCall program asked c
+  pub code_is : IsCodeOf asked.options c code
   pub lines : AreLines journal entries
-  pub replayed : IsReplayed (code_of c) (notes_of c.program) asked.flags entries status text
+  pub replayed : IsReplayed code (notes_of c.program) asked.flags entries status text

@@ -1,5 +1,5 @@
 -- What `run` owes for each answer.
-use Rattle.std.specs.Prelude.{ℕ, ◌≡◌, ◌+◌, ◌<◌, List, [], length, slice_get, Option, Some, None, MatchOption}
+use Rattle.std.specs.Prelude.{ℕ, ◌≡◌, ◌+◌, ◌<◌, List, [], ◌++◌, length, slice_get, Option, Some, None, MatchOption}
 use Rattle.std.specs.Option.{option_map}
 use Rattle.step_core.specs.declared.ends.Entry.{Entry}
 use Rattle.step_core.specs.declared.limits.Limit.{Limit}
@@ -24,7 +24,7 @@ use Rattle.async_cli.specs.Words.{Asked, AsksFor, AsksNot, entry_asked}
 use Rattle.async_cli.specs.Texts.{end_status, run_text}
 use Rattle.async_cli.specs.Stops.{limit_stop, stop_status, stop_text, status_after}
 use Rattle.async_cli.specs.Answers.{Given, Gave, text_limit, IsInput, InputStops, IsWritten}
-use Rattle.async_cli.specs.Calls.{Call, IsCall, TextStops, Code, code_of}
+use Rattle.async_cli.specs.Calls.{Call, IsCall, TextStops, Code, IsCodeOf, IsPrinted}
 
 -- the words ask for a run, and this is the call that they ask for, of the module whose text was read
 pub record Enters (given : Given) (asked : Asked) (c : Call) : Type 0 where
@@ -52,6 +52,17 @@ pub record Finishes (c : Code) (notes : List Note) (flags : Flags) (journal : Li
   pub replayed : LeadsTo c journal state
   pub finished : IsFinished state
   pub told : TellsEnd notes flags state journal status text
+
+-- Over the code of the call the journal is a finished run. The status is that of its end; the text is what is printed before
+-- it, and the end's.
+pub record Ran (asked : Asked) (c : Call) (journal : List Entry) (status : ℕ) (text : List ℕ) : Type 0 where
+  pub code : Code
+  pub is : IsCodeOf asked.options c code
+  pub printed : List ℕ
+  pub texts : IsPrinted asked.flags.print asked.options c.program printed
+  pub end : List ℕ
+  pub finishes : Finishes code (notes_of c.program) asked.flags journal status end
+  pub told : text ≡ printed ++ end
 
 -- ---- why a run has no end
 
@@ -111,15 +122,14 @@ pub data Causes (given : Given) (journal : List Entry) : Stop → Type 0 where
   call : (stop : Stop) (asked : Asked) (text : List ℕ) → journal ≡ [] → AsksFor Run given.words asked
       → IsInput text_limit given.source text → TextStops text asked stop → Causes given journal stop
   no_memory : journal ≡ [] → Causes given journal OutOfMemory
-  run : (stop : Stop) (asked : Asked) (c : Call) → Enters given asked c → RunStops (code_of c) asked.bounds journal stop
-      → Causes given journal stop
+  run : (stop : Stop) (asked : Asked) (c : Call) (code : Code) → Enters given asked c → IsCodeOf asked.options c code
+      → RunStops code asked.bounds journal stop → Causes given journal stop
 
 -- ---- what is owed
 
 -- an end, with its status and its text
 abbrev pub Ends : Given → List Entry → ℕ → List ℕ → Type 0
-Ends given journal status text = (asked : Asked) × ((c : Call) × (Enters given asked c
-    × Finishes (code_of c) (notes_of c.program) asked.flags journal status text))
+Ends given journal status text = (asked : Asked) × ((c : Call) × (Enters given asked c × Ran asked c journal status text))
 
 -- what an answer owes beside a failed write: an end or a cause, its status and its text
 abbrev pub Owes : Given → List Entry → Option Stop → ℕ → List ℕ → Type 0

@@ -1,7 +1,7 @@
 -- The status and the text of each answer.
 use Rattle.std.specs.Prelude.{ℕ, if◌then◌else◌, ◌==◌, ◌++◌, List, [], Option, Some, None, codes, ◌≡◌, ⊤}
 use Rattle.async_cli.specs.declared.stops.Stop.{Stop}
-use Rattle.async_cli.specs.declared.stops.Stop.TheVariants.{Words, Read, TooLong, Module, NoEntry, EntryType, Args, NotYet, Short, Objects, Tasks, Cells, Stack, Group, Spent, Write, OutOfMemory}
+use Rattle.async_cli.specs.declared.stops.Stop.TheVariants.{Words, Read, TooLong, Module, NoEntry, EntryType, Args, Short, Objects, Tasks, Cells, Stack, Group, Spent, Write, OutOfMemory}
 use Rattle.async_cli.specs.declared.answering.Written.{Written}
 use Rattle.async_cli.specs.declared.answering.Written.TheVariants.{Whole, Broken, NoMemory}
 use Rattle.async_cli.specs.declared.stops.ModuleFault.{ModuleFault}
@@ -28,7 +28,6 @@ stop_status (Module fault) = 3
 stop_status NoEntry = 3
 stop_status (EntryType op) = 3
 stop_status (Args at) = 3
-stop_status (NotYet op) = 3
 stop_status (Short parked) = 4
 stop_status (Objects live) = 5
 stop_status (Tasks live) = 5
@@ -109,7 +108,6 @@ stop_text entry (Module fault) = module_line fault
 stop_text entry NoEntry = between (codes "refused: no entry ") entry (codes "\n")
 stop_text entry (EntryType op) = numbered (codes "refused: entry type at operation ") op (codes "\n")
 stop_text entry (Args at) = numbered (codes "refused: argument ") at (codes "\n")
-stop_text entry (NotYet op) = numbered (codes "refused: NotYet at operation ") op (codes "\n")
 stop_text entry (Short parked) = numbered (codes "stopped: parked tasks ") parked (codes "\n")
 stop_text entry (Objects live) = numbered (codes "stopped: objects ") live (codes "\n")
 stop_text entry (Tasks live) = numbered (codes "stopped: tasks ") live (codes "\n")

@@ -6,11 +6,11 @@ use Rattle.async_cli.specs.declared.stops.Stop.TheVariants.{Words, OutOfMemory}
 use Rattle.async_cli.specs.declared.tool_stops.ToolStop.{ToolStop}
 use Rattle.async_cli.specs.declared.tool_stops.ToolStop.TheVariants.{Shared}
 use Rattle.async_cli.specs.declared.words.Command.{Command}
-use Rattle.async_cli.specs.declared.words.Command.TheVariants.{Check, Run, Source, Replay}
+use Rattle.async_cli.specs.declared.words.Command.TheVariants.{Check, Compile, Run, Source, Replay}
 use Rattle.async_cli.specs.Words.{Asked, asked_of}
 use Rattle.async_cli.specs.Stops.{tool_text, tool_status, status_after}
 use Rattle.async_cli.specs.Answers.{Given, Gave, IsWritten}
-use Rattle.async_cli.specs.Checks.{CheckCauses, CheckEnds}
+use Rattle.async_cli.specs.Checks.{CheckCauses, CheckEnds, CompileEnds}
 use Rattle.async_cli.specs.Replays.{ReplayCauses, ReplayEnds}
 use Rattle.async_cli.specs.Sources.{SourceCauses, SourceEnds}
 
@@ -19,6 +19,7 @@ abbrev pub CommandEnds : Command → Told → Asked → ℕ → List ℕ → Typ
 CommandEnds Check source asked status text = (status ≡ 0) × CheckEnds source text
 CommandEnds Source source asked status text = SourceEnds source asked status text
 CommandEnds Replay source asked status text = ReplayEnds source asked status text
+CommandEnds Compile source asked status text = (status ≡ 0) × CompileEnds asked.options source text
 CommandEnds Run source asked status text = ⊥
 
 -- why a command has no end
@@ -26,6 +27,7 @@ abbrev pub CommandCauses : Command → Told → Asked → ToolStop → Type 0
 CommandCauses Check source asked cause = CheckCauses source cause
 CommandCauses Source source asked cause = SourceCauses source asked cause
 CommandCauses Replay source asked cause = ReplayCauses source asked cause
+CommandCauses Compile source asked cause = CheckCauses source cause
 CommandCauses Run source asked cause = cause ≡ Shared Words
 
 -- The status and the text that are owed for what was given.

@@ -3,8 +3,9 @@ use Rattle.std.specs.Prelude.{ℕ, ◌≡◌, ◌+◌, ◌*◌, ◌-◌, ◌≤�
 use Rattle.std.specs.Str.{bytes_eq}
 use Rattle.arguments.specs.Grammar.{Verdict, Whole, Bad, verdict}
 use Rattle.ir_forms.specs.declared.args.Arg.{Arg}
+use Rattle.loop_blocks.specs.declared.options.Options.{Options}
 use Rattle.async_cli.specs.declared.words.Command.{Command}
-use Rattle.async_cli.specs.declared.words.Command.TheVariants.{Check, Run, Source, Replay}
+use Rattle.async_cli.specs.declared.words.Command.TheVariants.{Check, Compile, Run, Source, Replay}
 use Rattle.async_cli.specs.declared.words.Bounds.{Bounds}
 use Rattle.async_cli.specs.declared.words.Flags.{Flags}
 use Rattle.async_cli.specs.declared.words.Asked as code
@@ -14,10 +15,11 @@ use Rattle.async_cli.specs.declared.words.Asked as code
 abbrev pub command_of : List ℕ → Option Command
 command_of word =
     if bytes_eq word (codes "check") then Some Check
+    else (if bytes_eq word (codes "compile") then Some Compile
     else (if bytes_eq word (codes "run") then Some Run
     else (if bytes_eq word (codes "source") then Some Source
     else (if bytes_eq word (codes "replay") then Some Replay
-    else None)))
+    else None))))
 
 -- the word begins like this
 abbrev pub has_front : List ℕ → List ℕ → Bool
@@ -56,6 +58,14 @@ most_objects = 65536
 abbrev pub most_entries : ℕ
 most_entries = 16777216
 
+-- the most workers for which loops can be split
+abbrev pub most_workers : ℕ
+most_workers = 64
+
+-- the most iterations that a block can be asked to have at least
+abbrev pub most_least : ℕ
+most_least = 2147483648
+
 -- the arguments that were read
 abbrev pub args_read : Verdict → Option (List Arg)
 args_read (Whole args) = Some args
@@ -70,11 +80,14 @@ abbrev pub is_option : List ℕ → Bool
 is_option word =
     bytes_eq word (codes "--steps")
     || (bytes_eq word (codes "--journal")
+    || (bytes_eq word (codes "--print")
     || (has_front (codes "--entry=") word
     || (sets_number (codes "--fuel=") most_fuel word
     || (sets_number (codes "--objects=") most_objects word
     || (sets_number (codes "--entries=") most_entries word
-    || is_some (option_and_then args_of (behind (codes "--args=") word)))))))
+    || (sets_number (codes "--num-workers=") most_workers word
+    || (sets_number (codes "--min-task=") most_least word
+    || is_some (option_and_then args_of (behind (codes "--args=") word))))))))))
 
 -- ---- the words after the command
 
@@ -92,20 +105,25 @@ abbrev pub value_of : List ℕ → List (List ℕ) → Option (List ℕ)
 value_of front [] = None
 value_of front (word ∷ words) = if has_front front word then Some (drop (length front) word) else value_of front words
 
--- none stands twice
-abbrev pub stand_once : List (List ℕ) → Bool
-stand_once words =
+-- no flag stands twice
+abbrev pub flags_stand_once : List (List ℕ) → Bool
+flags_stand_once words =
     nat_lt (count_of (codes "--steps") words) 2
-    && (nat_lt (count_of (codes "--journal") words) 2
-    && (nat_lt (count_of (codes "--entry=") words) 2
+    && (nat_lt (count_of (codes "--journal") words) 2 && nat_lt (count_of (codes "--print") words) 2)
+
+-- no option with a value stands twice
+abbrev pub values_stand_once : List (List ℕ) → Bool
+values_stand_once words =
+    nat_lt (count_of (codes "--entry=") words) 2
     && (nat_lt (count_of (codes "--fuel=") words) 2
     && (nat_lt (count_of (codes "--objects=") words) 2
     && (nat_lt (count_of (codes "--entries=") words) 2
-    && nat_lt (count_of (codes "--args=") words) 2)))))
+    && (nat_lt (count_of (codes "--num-workers=") words) 2
+    && (nat_lt (count_of (codes "--min-task=") words) 2 && nat_lt (count_of (codes "--args=") words) 2)))))
 
 -- each is an option, and none stands twice
 abbrev pub are_allowed : List (List ℕ) → Bool
-are_allowed words = are_options words && stand_once words
+are_allowed words = are_options words && (flags_stand_once words && values_stand_once words)
 
 abbrev pub or_else : {A : Type 0} → A → Option A → A
 or_else otherwise None = otherwise
@@ -115,6 +133,7 @@ abbrev pub flags_in : List (List ℕ) → Flags
 flags_in words = record {
   steps = nat_lt 0 (count_of (codes "--steps") words);
   journal = nat_lt 0 (count_of (codes "--journal") words);
+  print = nat_lt 0 (count_of (codes "--print") words);
 }
 
 abbrev pub entry_in : List (List ℕ) → List ℕ
@@ -127,6 +146,13 @@ number_in front most otherwise words = or_else otherwise (option_and_then (numbe
 -- how many operations may begin where a module is run in the order of its text
 abbrev pub fuel_in : List (List ℕ) → ℕ
 fuel_in words = number_in (codes "--fuel=") most_fuel 1000000 words
+
+-- for how many workers parallel loops are split, and how many iterations a block has at least
+abbrev pub options_in : List (List ℕ) → Options
+options_in words = record {
+  workers = number_in (codes "--num-workers=") most_workers 8 words;
+  least = number_in (codes "--min-task=") most_least 1000 words;
+}
 
 -- how many objects may be live, and how many entries a journal may have
 abbrev pub bounds_in : List (List ℕ) → Bounds
@@ -155,6 +181,7 @@ pub record Asked : Type 0 where
   pub entry : List ℕ
   pub args : List Arg
   pub fuel : ℕ
+  pub options : Options
   pub bounds : Bounds
   pub flags : Flags
 
@@ -164,6 +191,7 @@ seen a = record {
   entry = a.entry.now;
   args = args_said a.args.now;
   fuel = a.fuel;
+  options = a.options;
   bounds = a.bounds;
   flags = a.flags;
 }
@@ -175,6 +203,7 @@ asked_in words command = record {
   entry = entry_in words;
   args = args_said (args_text words);
   fuel = fuel_in words;
+  options = options_in words;
   bounds = bounds_in words;
   flags = flags_in words;
 }

@@ -1,12 +1,13 @@
 //! The call that a run begins with, and the code that it is made of.
 
-ghost use Rattle.std.specs.Prelude.{◌≡◌, ◌<◌, ◌^◌, length, slice_get, map, None, MatchResult};
+ghost use Rattle.std.specs.Prelude.{◌≡◌, ◌<◌, ◌^◌, length, slice_get, map, true, IfOk, MatchResult, ◌≤◌};
 ghost use Rattle.arguments.specs.Fits.{Fits, fitted_args};
-ghost use Rattle.pass_line.specs.Line.{compiled};
-ghost use Rattle.pass_line.specs.Parallel.{first_parallel};
+ghost use Rattle.op_table.specs.Rows.{place_of};
+ghost use Rattle.pass_line.specs.Texts.{all_texts};
 ghost use Rattle.source_meaning.specs.Parts.{func_params};
 ghost use Rattle.async_cli.specs.Answers.{EntryStops, FitStops, Names};
-ghost use Rattle.async_cli.specs.Calls.{Call, CallStops, IsAsked, IsCall, IsLoaded, IsMade, MakeStops, Stands, TextStops, held};
+ghost use Rattle.async_cli.specs.declared.stops.Stop.TheVariants.{OutOfMemory};
+ghost use Rattle.async_cli.specs.Calls.{Call, IsAsked, IsCall, IsListing, IsLoaded, IsMade, IsMadeFor, Stands, TextStops, held};
 ghost use Rattle.async_cli.specs.Words as spec;
 ghost use Rattle.async_cli.specs.Words.{seen};
 
@@ -19,9 +20,9 @@ use ir_verify::Verified;
 use line_laws::functions_stand;
 use lists::Items;
 use low_forms::LowModule;
-use pass_line::{LowerFault, lower};
+use pass_line::{Options, Texts, compile, lower, push_texts};
 use run_report::Notes;
-use std::alloc::Global;
+use std::alloc::{AllocError, Global};
 
 /// The function that is called, and what its parameters hold.
 #[derive(Drop)]
@@ -30,32 +31,46 @@ pub(crate) struct EntryCall {
     pub(crate) values: Items<ArgValue>,
 }
 
-/// The code of a call, and the messages of the module that it was made of.
+/// What the passes make of a module: its code, and their texts, or none.
+#[derive(Drop)]
+pub(crate) struct Made {
+    pub(crate) low: LowModule,
+    pub(crate) printed: Vec<u8>,
+}
+
+/// The code of a call, with what is printed before its end, and the messages of the module that it was made of.
 #[derive(Drop)]
 pub(crate) struct Loaded {
     pub(crate) low: LowModule,
+    pub(crate) printed: Vec<u8>,
     pub(crate) notes: Notes,
     pub(crate) call: EntryCall,
 }
 
-/// The code of the call that is asked for, of the module whose text this is.
-pub(crate) fn read_call(alloc: Global, text: &[u8], asked: Asked) -> Result<Loaded, Stop>
+/// The code of the call that is asked for, of the module whose text this is, with the texts of the passes where they are to be
+/// printed.
+pub(crate) fn read_call(
+    alloc: Global,
+    text: &[u8],
+    asked: Asked,
+    print: bool,
+) -> Result<Loaded, Stop>
     requires { length text.now < 2 ^ 32 }
-    ensures { MatchResult result (λ loaded. (c : Call) × (IsCall text.now (seen asked.entry) c × (IsLoaded c loaded × Stands (held loaded)))) (λ stop. TextStops text.now (seen asked.entry) stop) }
+    ensures { MatchResult result (λ loaded. (c : Call) × (IsCall text.now (seen asked.entry) c × (IsLoaded asked.entry.options print c loaded × Stands (held loaded)))) (λ stop. TextStops text.now (seen asked.entry) stop) }
 {
     functions_stand();
     match read_module(alloc, text) {
-        Ok(verified) => load(alloc, verified, asked),
+        Ok(verified) => load(alloc, verified, asked, print),
         Err(stop) => Err(stop),
     }
 }
 
 /// The code of the call that is asked for, of this module.
-fn load(alloc: Global, verified: Verified, asked: Asked) -> Result<Loaded, Stop>
-    ensures { MatchResult result (λ loaded. (c : Call) × ((c.program ≡ verified.program) × (IsAsked (seen asked.entry) c × IsLoaded c loaded))) (λ stop. CallStops verified.program (seen asked.entry) stop) }
+fn load(alloc: Global, verified: Verified, asked: Asked, print: bool) -> Result<Loaded, Stop>
+    ensures { MatchResult result (λ loaded. (c : Call) × ((c.program ≡ verified.program) × (IsAsked (seen asked.entry) c × IsLoaded asked.entry.options print c loaded))) (λ stop. EntryStops verified.program (seen asked.entry) stop) }
 {
     match find_call(alloc, &verified, asked) {
-        Ok(call) => load_call(alloc, verified, call),
+        Ok(call) => load_call(alloc, verified, call, asked.options, print),
         Err(stop) => Err(stop),
     }
 }
@@ -99,29 +114,91 @@ fn fit(alloc: Global, params: &[(ValueNo, Ty)], text: &[u8]) -> Result<Items<Arg
 }
 
 /// The code of a module, with the messages of its operations, for this call.
-fn load_call(alloc: Global, verified: Verified, call: EntryCall) -> Result<Loaded, Stop>
-    ensures { MatchResult result (λ loaded. IsMade verified.program call loaded) (λ stop. MakeStops verified.program stop) }
+fn load_call(
+    alloc: Global,
+    verified: Verified,
+    call: EntryCall,
+    options: Options,
+    print: bool,
+) -> Result<Loaded, Stop>
+    ensures { MatchResult result (λ loaded. IsMadeFor options print verified.program call loaded) (λ stop. stop ≡ OutOfMemory) }
 {
     match Notes::of(alloc, verified.module()) {
-        Ok(notes) => match lower_source(alloc, verified) {
-            Ok(low) => Ok(Loaded { low, notes, call }),
-            Err(stop) => Err(stop),
+        Ok(notes) => match make(alloc, verified, options, print) {
+            Ok(Made { low, printed }) => Ok(Loaded {
+                low,
+                printed,
+                notes,
+                call,
+            }),
+            Err(_) => Err(Stop::OutOfMemory),
         },
         Err(_) => Err(Stop::OutOfMemory),
     }
 }
 
-/// The code of a module that was read at the level of source text. One of a later level isn't read there.
-fn lower_source(alloc: Global, verified: Verified) -> Result<LowModule, Stop>
-    ensures { MatchResult result (λ low. (low ≡ compiled verified.program) × (first_parallel verified.program ≡ None)) (λ stop. MakeStops verified.program stop) }
+/// The code of a module that was read at the level of source text, with the texts of the passes where they are to be printed. One
+/// of a later level isn't read there.
+fn make(
+    alloc: Global,
+    verified: Verified,
+    options: Options,
+    print: bool,
+) -> Result<Made, AllocError>
+    ensures { IfOk result (λ made. IsMade options print verified.program made) }
 {
     let is_source = verified.level() == Level::Source;
     if !is_source {
-        return Err(Stop::OutOfMemory);
+        return Err(AllocError);
     }
-    match lower(alloc, verified) {
-        Ok(low) => Ok(low),
-        Err(LowerFault::NotYet { op }) => Err(Stop::NotYet { op }),
-        Err(LowerFault::OutOfMemory) => Err(Stop::OutOfMemory),
+    if print {
+        return make_printed(alloc, verified, options);
+    }
+    match lower(alloc, verified, options) {
+        Ok(low) => Ok(Made {
+            low,
+            printed: Vec::new(alloc),
+        }),
+        Err(_) => Err(AllocError),
+    }
+}
+
+/// The code of a module, with the texts of the passes.
+fn make_printed(alloc: Global, verified: Verified, options: Options) -> Result<Made, AllocError>
+    requires { place_of verified.level ≤ place_of Level.Checked }
+    ensures { IfOk result (λ made. IsMade options true verified.program made) }
+{
+    match compile(alloc, verified, options) {
+        Ok(compiled) => match listing(alloc, &compiled.texts) {
+            Ok(printed) => Ok(Made {
+                low: compiled.code,
+                printed,
+            }),
+            Err(_) => Err(AllocError),
+        },
+        Err(_) => Err(AllocError),
+    }
+}
+
+/// The texts of the passes, each behind a line that names its pass.
+fn listing(alloc: Global, texts: &Texts) -> Result<Vec<u8>, AllocError>
+    ensures { IfOk result (λ text. text.items ≡ all_texts texts.now) }
+{
+    let mut text = Vec::new(alloc);
+    push_texts(&mut text, texts)?;
+    Ok(text)
+}
+
+/// The texts of the passes over a module that was read at the level of source text.
+pub(crate) fn list(
+    alloc: Global,
+    verified: Verified,
+    options: Options,
+) -> Result<Vec<u8>, AllocError>
+    ensures { IfOk result (λ text. IsListing options verified.program text.items) }
+{
+    match make(alloc, verified, options, true) {
+        Ok(made) => Ok(made.printed),
+        Err(_) => Err(AllocError),
     }
 }

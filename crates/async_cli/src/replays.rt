@@ -39,7 +39,7 @@ pub fn tell_replay<S: Source>(alloc: Global, asked: Asked, source: &mut S) -> Re
     if text.len() > TEXT_LIMIT as usize {
         return Err(ToolStop::Shared(Stop::TooLong { limit: TEXT_LIMIT }));
     }
-    match read_call(alloc, text, asked) {
+    match read_call(alloc, text, asked, false) {
         Ok(loaded) => tell_journal(alloc, &loaded, asked.flags, journal),
         Err(stop) => Err(ToolStop::Shared(stop)),
     }

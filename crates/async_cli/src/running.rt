@@ -12,7 +12,7 @@ ghost use Rattle.async_cli.specs.Stops.{status_after, stop_status, stop_text};
 use crate::answering::{Written, status_after, write_cause, write_text};
 use crate::calls::read_call;
 use crate::input::{TEXT_LIMIT, read_input};
-use crate::runs::run_call;
+use crate::runs::run_printed;
 use crate::serving::End;
 use crate::stops::Stop;
 use crate::tool_stops::ToolStop;
@@ -141,6 +141,7 @@ fn tell<S: Source>(
         Ok(Some(asked)) => match asked.command {
             Command::Run => tell_run(alloc, asked, source, journal),
             Command::Check => Err(Stop::Words),
+            Command::Compile => Err(Stop::Words),
             Command::Source => Err(Stop::Words),
             Command::Replay => Err(Stop::Words),
         },
@@ -174,8 +175,8 @@ fn tell_run<S: Source>(
         Ok(text) => text,
         Err(stop) => return Err(stop),
     };
-    match read_call(alloc, &text, asked) {
-        Ok(loaded) => run_call(alloc, &loaded, asked.bounds, asked.flags, journal),
+    match read_call(alloc, &text, asked, asked.flags.print) {
+        Ok(loaded) => run_printed(alloc, &loaded, asked.bounds, asked.flags, journal),
         Err(stop) => Err(stop),
     }
 }

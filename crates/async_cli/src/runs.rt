@@ -1,6 +1,6 @@
 //! Runs and replays of a call's code, with their ends.
 
-ghost use Rattle.std.specs.Prelude.{◌≡◌, ◌≤◌, ◌<◌, ◌^◌, [], length, IfOk, MatchResult};
+ghost use Rattle.std.specs.Prelude.{◌≡◌, ◌≤◌, ◌<◌, ◌^◌, ◌++◌, ℕ, List, [], length, IfOk, MatchResult};
 ghost use Rattle.step_core.specs.Runs.{IsFinished};
 ghost use Rattle.async_cli.specs.Calls.{Stands, held};
 ghost use Rattle.async_cli.specs.Replays.{EntryListStops, IsReplayed};
@@ -65,8 +65,45 @@ fn outcome_stop(outcome: Outcome, most: u32) -> Option<Stop>
     }
 }
 
+/// Runs the code of a call, and makes the text of the run's end, behind what is printed before it.
+pub(crate) fn run_printed(
+    alloc: Global,
+    loaded: &Loaded,
+    bounds: Bounds,
+    flags: Flags,
+    journal: &mut Vec<Entry>,
+) -> Result<End, Stop>
+    requires stands { Stands (held loaded.now) }
+    requires bounds { AreBounds bounds }
+    requires empty { journal.old.items ≡ [] }
+    ensures { MatchResult result
+        (λ end. (text : List ℕ) × (Finishes (held loaded.now) loaded.now.notes flags journal.new.items end.status text × (end.text.items ≡ loaded.now.printed.items ++ text)))
+        (λ stop. RunStops (held loaded.now) bounds journal.new.items stop) }
+{
+    match run_call(alloc, loaded, bounds, flags, journal) {
+        Ok(end) => match put_behind(alloc, loaded.printed.as_slice(), end.text.as_slice()) {
+            Ok(text) => Ok(End {
+                status: end.status,
+                text,
+            }),
+            Err(_) => Err(Stop::OutOfMemory),
+        },
+        Err(stop) => Err(stop),
+    }
+}
+
+/// Two texts as one.
+fn put_behind(alloc: Global, first: &[u8], second: &[u8]) -> Result<Vec<u8>, AllocError>
+    ensures { IfOk result (λ text. text.items ≡ first.now ++ second.now) }
+{
+    let mut text = Vec::new(alloc);
+    text.extend_from_slice(first)?;
+    text.extend_from_slice(second)?;
+    Ok(text)
+}
+
 /// Runs the code of a call, and makes the text of the run's end.
-pub(crate) fn run_call(
+fn run_call(
     alloc: Global,
     loaded: &Loaded,
     bounds: Bounds,

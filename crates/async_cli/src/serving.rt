@@ -9,7 +9,7 @@ ghost use Rattle.async_cli.specs.Stops.{status_after, tool_status, tool_text};
 ghost use Rattle.async_cli.specs.Tools.{ToolAnswers, ToolOwes, CommandEnds, CommandCauses};
 
 use crate::answering::{Written, status_after, write_cause, write_text};
-use crate::checks::tell_check;
+use crate::checks::{tell_check, tell_compile};
 use crate::replays::tell_replay;
 use crate::sources::tell_source;
 use crate::stops::Stop;
@@ -89,6 +89,7 @@ fn serve<S: Source>(alloc: Global, asked: Asked, source: &mut S) -> Result<End, 
         Command::Check => done(tell_check(alloc, source)),
         Command::Source => tell_source(alloc, asked, source),
         Command::Replay => tell_replay(alloc, asked, source),
+        Command::Compile => done(tell_compile(alloc, asked.options, source)),
         Command::Run => Err(ToolStop::Shared(Stop::Words)),
     }
 }

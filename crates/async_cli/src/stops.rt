@@ -112,8 +112,6 @@ pub enum Stop {
     EntryType { op: u32 },
     /// The argument of this index, from 0, is missing, superfluous or doesn't fit its parameter.
     Args { at: u32 },
-    /// The first operation that a run can't take yet.
-    NotYet { op: u32 },
     /// No task is ready, and so many are left.
     Short { parked: u32 },
     /// So many objects are live, as many as may be, and a task would create one more.
@@ -168,8 +166,7 @@ impl Stop {
             | Stop::Module(_)
             | Stop::NoEntry
             | Stop::EntryType { .. }
-            | Stop::Args { .. }
-            | Stop::NotYet { .. } => 3,
+            | Stop::Args { .. } => 3,
             Stop::Short { .. } => 4,
             Stop::Objects { .. }
             | Stop::Tasks { .. }
@@ -202,12 +199,6 @@ impl Stop {
                 "\n",
             ),
             Stop::Args { at } => { push_numbered(text, "refused: argument ", u64::from(at), "\n") }
-            Stop::NotYet { op } => push_numbered(
-                text,
-                "refused: NotYet at operation ",
-                u64::from(op),
-                "\n",
-            ),
             Stop::Short { parked } => {
                 push_numbered(text, "stopped: parked tasks ", u64::from(parked), "\n")
             }

@@ -3,9 +3,10 @@
 ghost use Rattle.std.specs.Prelude.{◌≡◌, ◌≤◌, is_some, option_and_then, map, option_map, codes, IfOk, IfSome};
 ghost use Rattle.std.specs.Option.{option_copied};
 ghost use Rattle.std.specs.String.{string_bytes};
-ghost use Rattle.async_cli.specs.Words.{command_of, has_front, behind, is_digit, number_behind, number_of, sets_number, is_option, args_of, are_options, count_of, value_of, stand_once, are_allowed, flags_in, entry_in, args_text, number_in, fuel_in, bounds_in, AreBounds, seen, asked_of, entry_asked};
+ghost use Rattle.async_cli.specs.Words.{command_of, has_front, behind, is_digit, number_behind, number_of, sets_number, is_option, args_of, are_options, count_of, value_of, flags_stand_once, values_stand_once, are_allowed, flags_in, entry_in, args_text, number_in, fuel_in, bounds_in, options_in, AreBounds, seen, asked_of, entry_asked};
 
 use arguments::{ArgsBad, read_bytes};
+use pass_line::Options;
 use std::alloc::{AllocError, Global};
 
 /// What a call is to do.
@@ -13,6 +14,8 @@ use std::alloc::{AllocError, Global};
 pub enum Command {
     /// To tell whether a module is accepted, and how large it is.
     Check,
+    /// To print the modules and the code that the passes make of a module.
+    Compile,
     /// To run a module on tasks.
     Run,
     /// To run a module in the order of its text.
@@ -28,6 +31,8 @@ pub struct Flags {
     pub steps: bool,
     /// The journal.
     pub journal: bool,
+    /// The modules and the code that the passes make, before the end.
+    pub print: bool,
 }
 
 /// How much a run may have.
@@ -49,6 +54,8 @@ pub struct Asked<'a> {
     pub args: &'a [u8],
     /// How many operations may begin where a module is run in the order of its text.
     pub fuel: u32,
+    /// How parallel loops are split.
+    pub options: Options,
     pub bounds: Bounds,
     pub flags: Flags,
 }
@@ -61,6 +68,12 @@ const MOST_OBJECTS: u32 = 65_536;
 
 /// The most entries that can be asked for.
 const MOST_ENTRIES: u32 = 16_777_216;
+
+/// The most workers for which loops can be split.
+const MOST_WORKERS: u32 = 64;
+
+/// The most iterations that a block can be asked to have at least.
+const MOST_LEAST: u32 = 2_147_483_648;
 
 /// What the words of a call ask for.
 pub fn read_words<'a>(alloc: Global, words: &'a [String]) -> Result<Option<Asked<'a>>, AllocError>
@@ -81,6 +94,7 @@ pub fn read_words<'a>(alloc: Global, words: &'a [String]) -> Result<Option<Asked
         entry: entry_in(others),
         args: args_in(others),
         fuel: fuel_in(others),
+        options: options_in(others),
         bounds: bounds_in(others),
         flags: flags_in(others),
     }))
@@ -101,6 +115,7 @@ fn read_command(word: &str) -> Option<Command>
 {
     match word {
         "check" => Some(Command::Check),
+        "compile" => Some(Command::Compile),
         "run" => Some(Command::Run),
         "source" => Some(Command::Source),
         "replay" => Some(Command::Replay),
@@ -135,27 +150,25 @@ fn is_digit(byte: u8) -> bool
 
 /// The number that the digits write, where it is at most the most.
 fn read_digits(bytes: &[u8], most: u32) -> Option<u32>
-    requires { most ≤ 16777216 }
     ensures number { result ≡ number_behind most 0 bytes.now }
     ensures within { IfSome result (λ n. n ≤ most) }
 {
-    let mut number = 0u32;
+    let mut number = 0u64;
     for byte in bytes {
         if !is_digit(*byte) {
             return None;
         }
-        let longer = number * 10 + u32::from(*byte - b'0');
-        if longer > most {
+        let longer = number * 10 + u64::from(*byte - b'0');
+        if longer > u64::from(most) {
             return None;
         }
         number = longer;
     }
-    Some(number)
+    Some(number as u32)
 }
 
 /// The number that a value says, from 1 to the most.
 fn read_number(bytes: &[u8], most: u32) -> Option<u32>
-    requires { most ≤ 16777216 }
     ensures number { result ≡ number_of most bytes.now }
     ensures within { IfSome result (λ n. n ≤ most) }
 {
@@ -170,7 +183,6 @@ fn read_number(bytes: &[u8], most: u32) -> Option<u32>
 
 /// Whether the word is an option of this beginning, with such a number.
 fn sets_number(word: &[u8], front: &[u8], most: u32) -> bool
-    requires { most ≤ 16777216 }
     ensures { result ≡ sets_number front.now most word.now }
 {
     match behind(word, front) {
@@ -204,10 +216,13 @@ fn is_option(alloc: Global, word: &[u8]) -> Result<bool, AllocError>
 {
     if word == b"--steps".as_slice()
         || word == b"--journal".as_slice()
+        || word == b"--print".as_slice()
         || has_front(word, b"--entry=")
         || sets_number(word, b"--fuel=", MOST_FUEL)
         || sets_number(word, b"--objects=", MOST_OBJECTS)
         || sets_number(word, b"--entries=", MOST_ENTRIES)
+        || sets_number(word, b"--num-workers=", MOST_WORKERS)
+        || sets_number(word, b"--min-task=", MOST_LEAST)
     {
         return Ok(true);
     }
@@ -252,23 +267,32 @@ fn value_of<'a>(words: &'a [String], front: &[u8]) -> Option<&'a [u8]>
     None
 }
 
-/// Whether no option stands twice.
-fn stand_once(words: &[String]) -> bool
-    ensures { result ≡ stand_once (map string_bytes words.now) }
+/// Whether no flag stands twice.
+fn flags_stand_once(words: &[String]) -> bool
+    ensures { result ≡ flags_stand_once (map string_bytes words.now) }
 {
     count_of(words, b"--steps") < 2
         && count_of(words, b"--journal") < 2
-        && count_of(words, b"--entry=") < 2
+        && count_of(words, b"--print") < 2
+}
+
+/// Whether no option with a value stands twice.
+fn values_stand_once(words: &[String]) -> bool
+    ensures { result ≡ values_stand_once (map string_bytes words.now) }
+{
+    count_of(words, b"--entry=") < 2
         && count_of(words, b"--fuel=") < 2
         && count_of(words, b"--objects=") < 2
         && count_of(words, b"--entries=") < 2
+        && count_of(words, b"--num-workers=") < 2
+        && count_of(words, b"--min-task=") < 2
         && count_of(words, b"--args=") < 2
 }
 
 fn are_allowed(alloc: Global, words: &[String]) -> Result<bool, AllocError>
     ensures { IfOk result (λ are. are ≡ are_allowed (map string_bytes words.now)) }
 {
-    let once = stand_once(words);
+    let once = flags_stand_once(words) && values_stand_once(words);
     let known = are_options(alloc, words)?;
     Ok(known && once)
 }
@@ -279,6 +303,7 @@ fn flags_in(words: &[String]) -> Flags
     Flags {
         steps: count_of(words, b"--steps") > 0,
         journal: count_of(words, b"--journal") > 0,
+        print: count_of(words, b"--print") > 0,
     }
 }
 
@@ -302,8 +327,7 @@ fn args_in<'a>(words: &'a [String]) -> &'a [u8]
 
 /// The number behind such a beginning; else this one.
 fn number_in(words: &[String], front: &[u8], most: u32, otherwise: u32) -> u32
-    requires most { most ≤ 16777216 }
-    requires otherwise { otherwise ≤ most }
+    requires { otherwise ≤ most }
     ensures number { result ≡ number_in front.now most otherwise (map string_bytes words.now) }
     ensures within { result ≤ most }
 {
@@ -320,6 +344,15 @@ fn fuel_in(words: &[String]) -> u32
     ensures { result ≡ fuel_in (map string_bytes words.now) }
 {
     number_in(words, b"--fuel=", MOST_FUEL, 1_000_000)
+}
+
+fn options_in(words: &[String]) -> Options
+    ensures { result ≡ options_in (map string_bytes words.now) }
+{
+    Options {
+        workers: number_in(words, b"--num-workers=", MOST_WORKERS, 8),
+        least: number_in(words, b"--min-task=", MOST_LEAST, 1_000),
+    }
 }
 
 fn bounds_in(words: &[String]) -> Bounds

@@ -10,6 +10,8 @@ mod harness;
 #[cfg(test)]
 mod limits;
 #[cfg(test)]
+mod loops;
+#[cfg(test)]
 mod operations;
 #[cfg(test)]
 mod races;

@@ -8,7 +8,7 @@ func.func @main() { %t = async.execute { async.yield } return }
 -- journal
 0 1
 0 3
-0 3
+0 4
 1 1
 1 3
 
@@ -21,7 +21,7 @@ func.func @main() { %t = async.execute { async.yield } return }
 0 1
 0 3
 1 1
-0 3
+0 4
 1 3
 
 = 0
@@ -36,7 +36,7 @@ func.func @main() { %t = async.execute { async.yield } async.await %t : !async.t
 1 1
 1 3
 0 0
-0 1
+0 2
 
 = 0
 tasks 1, objects 1
@@ -47,7 +47,7 @@ tasks 1, objects 1
 1 1
 1 3
 0 0
-0 1
+0 2
 
 $ replay --steps
 func.func @main() -> i64 { %t, %v = async.execute -> !async.value<i64> { %c = arith.constant 7 : i64 async.yield %c : i64 } %r = async.await %v : !async.value<i64> return %r : i64 }
@@ -55,19 +55,19 @@ func.func @main() -> i64 { %t, %v = async.execute -> !async.value<i64> { %c = ar
 0 1
 0 0
 0 3
-0 3
+0 4
 1 2
 1 0
 1 0
 1 3
 0 0
 0 1
-0 0
+0 1
 
 = 0
 result 0: 7
 tasks 1, objects 2
-steps 24, entries 11
+steps 26, entries 11
 
 $ replay
 func.func @main(%c: i1) { cf.assert %c, "no" return }
@@ -132,7 +132,7 @@ func.func @main() { %t = async.execute { async.yield } return }
 -- journal
 0 1
 0 3
-0 3
+0 4
 1 1
 1 3
 1 0
@@ -162,7 +162,7 @@ func.func @main() { %z = arith.constant 0 : index scf.parallel (%i) = (%z) to (%
 x
 
 = 3
-refused: NotYet at operation 3
+refused: journal line 1
 
 $ replay
 func.func @main() { %t = async.execute { async.yield } return }

@@ -15,19 +15,19 @@ func.func @main() -> i64 {
 = 0
 result 0: 7
 tasks 1, objects 2
-steps 24, entries 11
+steps 26, entries 11
 -- journal
 0 1
 0 0
 0 3
-0 3
+0 4
 1 2
 1 0
 1 0
 1 3
 0 0
 0 1
-0 0
+0 1
 
 $ run
 func.func @main() {
@@ -224,11 +224,6 @@ $ run
 func.func @main() { func.call @main() : () -> () return }
 = 5
 stopped: frames 1024
-
-$ run
-func.func @main() { %z = arith.constant 0 : index %s = arith.constant 1 : index scf.parallel (%i) = (%z) to (%z) step (%s) { scf.reduce } return }
-= 3
-refused: NotYet at operation 4
 
 $ run --entry=f
 func.func @f() { return } func.func @main() { %z = arith.constant 0 : index %s = arith.constant 1 : index scf.if %c { scf.parallel (%i) = (%z) to (%z) step (%s) { } } return }

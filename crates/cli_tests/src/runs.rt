@@ -39,7 +39,7 @@ tasks 1, objects 1
 -- journal
 0 1
 0 3
-0 3
+0 4
 1 1
 1 3
 
@@ -54,7 +54,7 @@ tasks 1, objects 1
 1 1
 1 3
 0 0
-0 1
+0 2
 
 $ check --journal
 func.func @main() { return }
@@ -135,10 +135,10 @@ refused: words
 
 $ replay --print
 func.func @main() { return }
-= 2
-refused: words
+= 3
+refused: journal line 0
 
-$ compile
+$ compile --print=
 func.func @main() { return }
 = 2
 refused: words

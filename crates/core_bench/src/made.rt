@@ -5,9 +5,15 @@ use ir_forms::{Level, operation_count, renumber};
 use ir_verify::{VerifyFault, verify};
 use low_forms::LowModule;
 use mlir_text::{PROGRAM_LIMITS, TextFault, parse};
-use pass_line::{LowerFault, lower};
+use pass_line::{Options, lower};
 use std::alloc::Global;
 use thiserror::Error;
+
+/// For how many workers parallel loops are split, and how many iterations a block has at least.
+const OPTIONS: Options = Options {
+    workers: 8,
+    least: 1_000,
+};
 
 /// Why a text has no code.
 #[derive(Debug, Drop, Error)]
@@ -18,8 +24,8 @@ pub enum Fault {
     Verify(VerifyFault),
     #[error("its level is too late")]
     Level,
-    #[error("{0}")]
-    Lower(LowerFault),
+    #[error("out of memory")]
+    OutOfMemory,
 }
 
 /// Makes the code of a text.
@@ -31,16 +37,16 @@ pub fn code_of(alloc: Global, text: &[u8]) -> Result<LowModule, Fault>
         Err(fault) => return Err(Fault::Text(fault)),
     };
     if operation_count(&program).is_none() {
-        return Err(Fault::Lower(LowerFault::OutOfMemory));
+        return Err(Fault::OutOfMemory);
     }
     let verified = match verify(alloc, renumber(program)) {
         Ok(verified) => verified,
         Err(fault) => return Err(Fault::Verify(fault)),
     };
     if verified.level() <= Level::Checked {
-        match lower(alloc, verified) {
+        match lower(alloc, verified, OPTIONS) {
             Ok(code) => Ok(code),
-            Err(fault) => Err(Fault::Lower(fault)),
+            Err(_) => Err(Fault::OutOfMemory),
         }
     } else {
         Err(Fault::Level)

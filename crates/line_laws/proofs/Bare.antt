@@ -25,7 +25,8 @@ use Rattle.check_insert.specs.declared.guard.Guard.{Guard}
 use Rattle.check_insert.specs.declared.guard.Guard.TheVariants as guard
 use Rattle.check_insert.specs.Shape as shape
 use Rattle.check_insert.specs.Shape.{each, guard_of, check_quotient, check_index, check_between}
-use Rattle.pass_line.specs.Parallel.{is_parallel, first_of, op_parallel, region_parallel, parallel_in, parallel_inside}
+use Rattle.parallel_for.specs.Shape.{is_parallel}
+use Rattle.line_laws.specs.Parallels.{first_of, op_parallel, region_parallel, parallel_in, parallel_inside}
 
 -- ---- lists
 

@@ -19,33 +19,26 @@ use Rattle.scf_blocks.specs.Lowered.{ends_task, is_task, is_task_yield}
 use Rattle.line_laws.proofs.Places.{nowhere}
 use Rattle.exec_outline.specs.Shape.{Outlining, Typed, in_order, op_outlined, outlined_as, outlined_op, outlined_region, region_outlined, task_region}
 
-by_form : (t : Form) → (is_ending form.Return && not (ends form.Return t)) ≡ false → is_task_yield t ≡ false
+pub by_form : (t : Form) → (is_ending form.Return && not (ends form.Return t)) ≡ false → is_task_yield t ≡ false
 by_form form.TaskYield e = absurd (true≢false e)
 by_form form.Return e = refl
 by_form _ e = refl
 
 -- whether operations of these kinds end as a task's
-abbrev last_yields : Option OpKind → Bool
+abbrev pub last_yields : Option OpKind → Bool
 last_yields None = false
 last_yields (Some kind) = is_task_yield (row_of kind).form
 
-pub no_task : (ops : List Op) → lacks_end form.Return ops ≡ false → is_task ops ≡ false
-no_task [] e = refl
-no_task (op ∷ []) e = by_form (row_of (kind_of op)).form e
-no_task (op ∷ o ∷ ops) e =
-    let last : suc (suc (length ops)) - 1 ≡ suc (suc (length ops) - 1) = omega arith in
-    ap (λ k. ends_task (slice_get (op ∷ o ∷ ops) k)) last ∙ no_task (o ∷ ops) e
-
 -- ---- outlined
 
-abbrev last_kind : List OpKind → Bool
+abbrev pub last_kind : List OpKind → Bool
 last_kind kinds = last_yields (slice_get kinds (length kinds - 1))
 
 yields_as : (o : Option Op) → ends_task o ≡ last_yields (option_map kind_of o)
 yields_as None = refl
 yields_as (Some op) = refl
 
-is_by_kinds : (ops : List Op) → is_task ops ≡ last_kind (map kind_of ops)
+pub is_by_kinds : (ops : List Op) → is_task ops ≡ last_kind (map kind_of ops)
 is_by_kinds ops =
     yields_as (slice_get ops (length ops - 1))
     ∙ ap last_yields (sym (slice_get-map kind_of ops (length ops - 1)))

@@ -1,6 +1,7 @@
 pub mod Places
 pub mod Ends
 pub mod Stand
-pub mod First
+pub mod One
+pub mod Splits
 pub mod Bare
 pub mod NoneMade

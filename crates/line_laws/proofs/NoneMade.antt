@@ -15,7 +15,8 @@ use Rattle.source_meaning.specs.Renaming.{op_renamed, region_renamed, renamed_re
 use Rattle.value_numbers.specs.Numbers.{value_numbered, numbered_values, defined_in, place_in}
 use Rattle.exec_outline.specs.Shape as shape
 use Rattle.exec_outline.specs.Shape.{Outlining, Typed, in_order, is_execute}
-use Rattle.pass_line.specs.Parallel.{is_parallel, first_of, op_parallel, region_parallel, parallel_in, parallel_inside, parallel_under, first_parallel}
+use Rattle.parallel_for.specs.Shape.{is_parallel}
+use Rattle.line_laws.specs.Parallels.{first_of, op_parallel, region_parallel, parallel_in, parallel_inside, parallel_under, first_parallel}
 use Rattle.line_laws.proofs.Bare.{first_next, here_none, more_none, AreBare, bare_both, no_loop, none_inside, rolled, insertion_bare}
 
 abbrev Each : {A : Type 0} → (A → Type 0) → List A → Type 0

@@ -1,41 +1,40 @@
--- Parallel loops, which have no code yet: all of a module's, the first one, and none where there is none.
-use Rattle.std.specs.Prelude.{◌≡◌, ◌≤◌, ℕ, cond, List, ◌∷◌, map, Some, None, slice_get}
+-- Parallel loops: the first one of a module, and none where there is none.
+use Rattle.std.specs.Prelude.{◌≡◌, ℕ, cond, List, [], ◌∷◌, map, Option, Some, None}
 use Rattle.ir_forms.specs.declared.ops.Func.{Func}
 use Rattle.ir_forms.specs.declared.ops.Module.{Module}
 use Rattle.ir_forms.specs.declared.ops.Op.{Op, Op-F}
 use Rattle.ir_forms.specs.declared.ops.Op.TheFolds.{fold-Op, fold-Region}
 use Rattle.ir_forms.specs.declared.ops.Region.{Region, Region-F}
-use Rattle.ir_forms.specs.Numbers.{joined, renumbered}
-use Rattle.pass_line.specs.Line.{structured}
-use Rattle.pass_line.specs.Parallel.{is_parallel, first_parallel}
+use Rattle.parallel_for.specs.Shape.{is_parallel}
+use Rattle.exec_outline.specs.Shape.{outlined}
+use Rattle.pass_line.specs.Line.{prepared}
 
-abbrev pub op_parallels : Op-F (List ℕ) (List ℕ) → List ℕ
-op_parallels o = cond (is_parallel o.kind) (o.at ∷ joined o.regions) (joined o.regions)
+-- the first that is there
+abbrev pub first_of : List (Option ℕ) → Option ℕ
+first_of [] = None
+first_of (Some n ∷ more) = Some n
+first_of (None ∷ more) = first_of more
 
-abbrev pub region_parallels : Region-F (List ℕ) (List ℕ) → List ℕ
-region_parallels r = joined r.ops
+-- an operation comes before those in its regions
+abbrev pub op_parallel : Op-F (Option ℕ) (Option ℕ) → Option ℕ
+op_parallel o = cond (is_parallel o.kind) (Some o.at) (first_of o.regions)
 
-abbrev pub parallels_in : Op → List ℕ
-parallels_in = fold-Op (List ℕ) (List ℕ) op_parallels region_parallels
+abbrev pub region_parallel : Region-F (Option ℕ) (Option ℕ) → Option ℕ
+region_parallel r = first_of r.ops
 
-abbrev pub parallels_inside : Region → List ℕ
-parallels_inside = fold-Region (List ℕ) (List ℕ) op_parallels region_parallels
+abbrev pub parallel_in : Op → Option ℕ
+parallel_in = fold-Op (Option ℕ) (Option ℕ) op_parallel region_parallel
 
-abbrev pub parallels_under : Func → List ℕ
-parallels_under f = parallels_inside f.body
+abbrev pub parallel_inside : Region → Option ℕ
+parallel_inside = fold-Region (Option ℕ) (Option ℕ) op_parallel region_parallel
 
--- the numbers of all parallel loops, in the order of the text
-abbrev pub parallels_of : Module → List ℕ
-parallels_of program = joined (map parallels_under program.funcs)
+abbrev pub parallel_under : Func → Option ℕ
+parallel_under f = parallel_inside f.body
 
-abbrev pub FirstParallel : Type 0
-FirstParallel = (program : Module) → first_parallel program ≡ slice_get (parallels_of program) 0
+-- the number of the first `scf.parallel` in the order of the text
+abbrev pub first_parallel : Module → Option ℕ
+first_parallel program = first_of (map parallel_under program.funcs)
 
--- in a module that is numbered by places none has a lesser number
-abbrev pub LeastParallel : Type 0
-LeastParallel = (program : Module) (op : ℕ) → first_parallel (renumbered program) ≡ Some op
-    → (k n : ℕ) → slice_get (parallels_of (renumbered program)) k ≡ Some n → op ≤ n
-
--- a module without parallel loops has none in what its blocks are made of
+-- a module without parallel loops has none once it has its checks, and a function for each task
 abbrev pub NoneMade : Type 0
-NoneMade = (program : Module) → first_parallel program ≡ None → first_parallel (structured program) ≡ None
+NoneMade = (program : Module) → first_parallel program ≡ None → first_parallel (outlined (prepared program)) ≡ None

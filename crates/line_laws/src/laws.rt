@@ -1,9 +1,8 @@
 //! The laws.
-ghost use Rattle.line_laws.specs.Laws.{FunctionsStand};
-ghost use Rattle.line_laws.specs.Parallels.{FirstParallel, LeastParallel, NoneMade};
+ghost use Rattle.line_laws.specs.Laws.{FunctionsStand, OneCode, SameTexts, TextsWithCode};
+ghost use Rattle.line_laws.specs.Parallels.{NoneMade};
 
 use check_insert::checked_is_sound;
-use ir_forms::numbers_in_order;
 
 /// Each function of a sound module stands in its code at its own number.
 pub fn functions_stand()
@@ -12,19 +11,22 @@ pub fn functions_stand()
     checked_is_sound();
 }
 
-/// The parallel loop that has no code yet is the first of all.
-pub fn parallel_is_first()
-    ensures { FirstParallel }
+/// A module has one code.
+pub fn one_code()
+    ensures { OneCode }
 {}
 
-/// In a module that is numbered by places it has the least number.
-pub fn parallel_is_least()
-    ensures { LeastParallel }
-{
-    numbers_in_order();
-}
+/// With its texts a module has the same code.
+pub fn texts_with_code()
+    ensures { TextsWithCode }
+{}
 
-/// The passes before blocks make no parallel loop, so none is left out in silence.
+/// The texts of a module are the same.
+pub fn same_texts()
+    ensures { SameTexts }
+{}
+
+/// Checks and the functions of tasks make no parallel loop where there was none.
 pub fn no_parallel_is_made()
     ensures { NoneMade }
 {}

@@ -2,12 +2,16 @@
 use crate::texts::TEXTS;
 use ir_forms::{Level, operation_count, renumber};
 use ir_verify::verify;
-use low_print::print_low;
 use mlir_text::{PROGRAM_LIMITS, parse};
-use pass_line::lower;
+use pass_line::{Options, compile};
 use std::test::Fail;
 
 const MEBIBYTE: usize = 1 << 20;
+
+const OPTIONS: Options = Options {
+    workers: 8,
+    least: 1_000,
+};
 
 #[test]
 fn code_prints_as_expected(rt: HostRuntime) -> Result<(), Fail> {
@@ -20,9 +24,8 @@ fn code_prints_as_expected(rt: HostRuntime) -> Result<(), Fail> {
         assert!(rt; operation_count(&program).is_some());
         let verified = verify(alloc, renumber(program)).expect(&rt, "it breaks no rule");
         assert!(rt; verified.level() <= Level::Checked);
-        let code = lower(alloc, verified).expect(&rt, "it has no parallel loop");
-        let printed = print_low(alloc, &code)?;
-        assert_eq!(rt; printed.as_str(), expected);
+        let made = compile(alloc, verified, OPTIONS)?;
+        assert_eq!(rt; made.texts.runtime.as_str(), expected);
     }
     Ok(())
 }

@@ -1,10 +1,9 @@
-//! All passes in one line: from a verified module to the code that the core runs.
+//! All passes in one line: from a verified module to the code that the core runs, and the texts on the way.
 #![tactic(auto)]
 
-mod fault;
 mod line;
-mod parallel;
+mod texts;
 
-pub use fault::LowerFault;
-pub use line::{lower, to_blocks};
-pub use parallel::first_parallel;
+pub use line::{Compiled, compile, lower, to_blocks};
+pub use loop_blocks::Options;
+pub use texts::{Texts, push_texts};

@@ -1,5 +1,5 @@
 use Rattle.std.proofs.Common.{◌≡◌, Some, None, Ok, IfOk, option_map, sym, ap, subst, ◌∙◌}
-use Rattle.async_cli.specs.declared.words.Command.TheVariants.{Check, Run, Source, Replay}
+use Rattle.async_cli.specs.declared.words.Command.TheVariants.{Check, Compile, Run, Source, Replay}
 use Rattle.async_cli.specs.Runs.{Causes}
 use Rattle.async_cli.specs.Words.{seen, asked_of}
 use Rattle.async_cli.proofs.Telling.{asks_other, asks_none}
@@ -25,6 +25,17 @@ returns-in-Replay g c = λ words same.
     asks_other words (seen c.in-Ok-Some.asked)
     (ap (option_map seen) (sym is) ∙ subst (λ r. IfOk r (λ asked. option_map seen asked ≡ asked_of words)) read same)
     (λ runs. let both : Replay ≡ Run = sym command ∙ runs in cc both)
+    )
+
+pub returns-in-Compile : goal.returns-in-Compile
+returns-in-Compile g c = λ words same.
+    let read : c.args.read ≡ Ok c.in-Ok-Some.field-0 = cc c.in-Ok-Some.is in
+    let is : c.in-Ok-Some.field-0 ≡ Some c.in-Ok-Some.asked = cc c.in-Ok-Some.field-0-is in
+    let command : c.in-Ok-Some.asked.command ≡ Compile = cc c.in-Compile.is in
+    Causes.words c.requires.empty (
+    asks_other words (seen c.in-Ok-Some.asked)
+    (ap (option_map seen) (sym is) ∙ subst (λ r. IfOk r (λ asked. option_map seen asked ≡ asked_of words)) read same)
+    (λ runs. let both : Compile ≡ Run = sym command ∙ runs in cc both)
     )
 
 pub returns-in-Ok-None : goal.returns-in-Ok-None

@@ -10,8 +10,8 @@ returns-in-Err g c = λ words asks. Causes.input c.in-Err.stop (seen c.args.aske
 
 pub returns-in-Ok-read_call : goal.returns-in-Ok-read_call
 returns-in-Ok-read_call g c = λ words asks.
-    ran _ (seen c.args.asked) c.in-Ok.text.items c.in-Ok-read_call.loaded c.run_call.new.journal.items c.run_call.result asks
-    c.in-Ok.ensures _ c.deref.ensures.value c.in-Ok-read_call.ensures c.run_call.ensures
+    ran _ (seen c.args.asked) c.in-Ok.text.items c.in-Ok-read_call.loaded c.run_printed.new.journal.items c.run_printed.result asks
+    c.in-Ok.ensures _ c.deref.ensures.value c.in-Ok-read_call.ensures c.run_printed.ensures
 
 pub returns : goal.returns
 returns g c = λ words asks.
