@@ -124,7 +124,7 @@ module _ (p : Program) (code : LowModule) (k : Known) (place : ℕ) (nest : Nest
       by : (v : Option source.Val) → computed c.m (out-Op o) (vals o) ≡ v → IsSome v → Comes p code k s (or_fails (out-Op o) (t rest) (λ v. Goes (bound (out-Op o).results (v ∷ []) (t rest))) v)
       by None e h = absurd (no_truth h)
       by (Some v) e h =
-          let w = computed_same k f (out-Op o) x c c.m (vals o) (operands s x) v (operands_same o (out-Op o).kind x r) e in
+          let w = computed_same k f (out-Op o) x c c.m refl (vals o) (operands s x) v (operands_same o (out-Op o).kind x r) e in
           here p code k s (moved x.results (w.0 ∷ []) s) (bound (out-Op o).results (v ∷ []) (t rest))
           (compute_quiet code s f x more tm c.m w.0 (ap effect_of r.kind_is ∙ effect_row (out-Op o).kind c.m c.computes) w.1 is has)
           (goes_on p code k place nest f end a n (out-Op o).results scope rest frames env (v ∷ []) (w.0 ∷ []) s x is r.results r.new bef laid_on agree (w.2, tt) c.few fits)

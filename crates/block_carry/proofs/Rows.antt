@@ -25,7 +25,7 @@ use Rattle.task_stack.specs.Numbers as low
 use Rattle.task_stack.specs.Numbers.{carried}
 use Rattle.task_stack.specs.Registers as registers
 use Rattle.block_carry.specs.Same.{Known, IsSame, AreSame}
-use Rattle.block_carry.specs.Rows.{Computes, addi, subi, muli, divsi, divui, remsi, remui, andi, ori, xori, shli, shrsi, shrui, maxsi, minsi, maxui, minui, constant, cmpi, select, extsi, index_cast, extui, trunci, index_castui, dim, computed, IsComputing}
+use Rattle.block_carry.specs.Rows.{Computes, addi, subi, muli, divsi, divui, remsi, remui, andi, ori, xori, shli, shrsi, shrui, maxsi, minsi, maxui, minui, constant, cmpi, select, extsi, index_cast, extui, trunci, index_castui, dim, computed, ReadsWidth, IsComputing}
 use Rattle.block_carry.specs.Laid.{Ends, func_return, scf_yield, async_yield, scf_condition}
 use Rattle.block_carry.specs.Follows.{IsMemory}
 use Rattle.block_carry.proofs.Values.{none_is, some_is, number_same, value_same, dims_same}
@@ -112,32 +112,32 @@ chosen_same : (k : Known) (z : Bool) (a b : source.Val) (x y : Val) → IsSame k
 chosen_same k true a b x y g h = h
 chosen_same k false a b x y g h = g
 
-pub computed_same : (k : Known) (f : LowFunc) (o : Node) (x : Instr) (c : IsComputing f o x) (m : one.Number) (vs : List source.Val) (ws : List Val) (v : source.Val) → AreSame k vs ws → computed m o vs ≡ Some v → Comes_to k v (low.computed m f x ws)
-computed_same k f o x c number.Constant vs ws v same e = of_number k v _ _ (ap₂ at_width c.result c.literal) e
-computed_same k f o x c (number.Binary b) vs ws v same e =
+pub computed_same : (k : Known) (f : LowFunc) (o : Node) (x : Instr) (c : IsComputing f o x) (m : one.Number) → c.m ≡ m → (vs : List source.Val) (ws : List Val) (v : source.Val) → AreSame k vs ws → computed m o vs ≡ Some v → Comes_to k v (low.computed m f x ws)
+computed_same k f o x c number.Constant is vs ws v same e = of_number k v _ _ (ap₂ at_width c.result c.literal) e
+computed_same k f o x c (number.Binary b) is vs ws v same e =
     of_option k v (result_at (steps.result_width o) b (number vs 0) (number vs 1)) (result_at (low.result_width f x) b (registers.number ws 0) (registers.number ws 1))
     (ap (λ w. result_at w b (registers.number ws 0) (registers.number ws 1)) c.result
     ∙ ap₂ (λ y z. result_at (steps.result_width o) b y z) (number_same k _ _ (value_same k vs ws 0 same)) (number_same k _ _ (value_same k vs ws 1 same))) e
-computed_same k f o x c number.Compare vs ws v same e =
+computed_same k f o x c number.Compare is vs ws v same e =
     of_number k v (compared_at (steps.written_width o) o.attr (number vs 0) (number vs 1)) (compared_at (low.operand_width f x) (carried x.attr) (registers.number ws 0) (registers.number ws 1))
-    (ap (λ w. compared_at w (carried x.attr) (registers.number ws 0) (registers.number ws 1)) c.operand ∙ c.compare (steps.written_width o) (registers.number ws 0) (registers.number ws 1)
+    (ap (λ w. compared_at w (carried x.attr) (registers.number ws 0) (registers.number ws 1)) (c.operand (subst ReadsWidth (sym is) tt)) ∙ c.compare (steps.written_width o) (registers.number ws 0) (registers.number ws 1)
     ∙ ap₂ (λ y z. compared_at (steps.written_width o) o.attr y z) (number_same k _ _ (value_same k vs ws 0 same)) (number_same k _ _ (value_same k vs ws 1 same))) e
-computed_same k f o x c number.Select vs ws v same e = (
+computed_same k f o x c number.Select is vs ws v same e = (
   low.chosen (registers.number ws 0) (registers.value ws 1) (registers.value ws 2),
   refl,
   subst (λ z. IsSame k z (low.chosen (registers.number ws 0) (registers.value ws 1) (registers.value ws 2))) (some_is _ v e)
       (subst (λ n. IsSame k (chosen (number vs 0) (value vs 1) (value vs 2)) (cond (nat_eq n 0) (registers.value ws 2) (registers.value ws 1))) (sym (number_same k _ _ (value_same k vs ws 0 same)))
       (chosen_same k (nat_eq (number vs 0) 0) _ _ _ _ (value_same k vs ws 1 same) (value_same k vs ws 2 same))),
 )
-computed_same k f o x c number.ExtendSign vs ws v same e =
+computed_same k f o x c number.ExtendSign is vs ws v same e =
     of_number k v (sign_cast (steps.written_width o) (steps.result_width o) (number vs 0)) (sign_cast (low.operand_width f x) (low.result_width f x) (registers.number ws 0))
-    (ap₂ (λ a b. sign_cast a b (registers.number ws 0)) c.operand c.result ∙ ap (sign_cast (steps.written_width o) (steps.result_width o)) (number_same k _ _ (value_same k vs ws 0 same))) e
-computed_same k f o x c number.FitWidth vs ws v same e =
+    (ap₂ (λ a b. sign_cast a b (registers.number ws 0)) (c.operand (subst ReadsWidth (sym is) tt)) c.result ∙ ap (sign_cast (steps.written_width o) (steps.result_width o)) (number_same k _ _ (value_same k vs ws 0 same))) e
+computed_same k f o x c number.FitWidth is vs ws v same e =
     of_number k v (at_width (steps.result_width o) (number vs 0)) (at_width (low.result_width f x) (registers.number ws 0)) (ap₂ at_width c.result (number_same k _ _ (value_same k vs ws 0 same))) e
-computed_same k f o x c number.Dimension vs ws v same e =
+computed_same k f o x c number.Dimension is vs ws v same e =
     of_option k v (slice_get (dims_in (value vs 0)) (number vs 1)) (slice_get (registers.dims_in (registers.value ws 0)) (registers.number ws 1))
     (ap₂ slice_get (dims_same k _ _ (value_same k vs ws 0 same)) (number_same k _ _ (value_same k vs ws 1 same))) e
-computed_same k f o x c number.Zero vs ws v same e = of_number k v 0 0 refl e
+computed_same k f o x c number.Zero is vs ws v same e = of_number k v 0 0 refl e
 
 -- ---- values of a kind
 

@@ -93,6 +93,12 @@ computed number.FitWidth o vs = Some (Number (at_width (source.result_width o) (
 computed number.Dimension o vs = option_map Number (slice_get (dims_in (value vs 0)) (number vs 1))
 computed number.Zero o vs = Some (Number 0)
 
+-- which read their operand at the width of its type
+abbrev pub ReadsWidth : one.Number → Type 0
+ReadsWidth number.Compare = Unit {0}
+ReadsWidth number.ExtendSign = Unit {0}
+ReadsWidth _ = ⊥
+
 -- an instruction that computes as an operation does: its attribute and its registers' types say the same
 pub record IsComputing (f : LowFunc) (o : Node) (i : Instr) : Type 0 where
   pub m : one.Number
@@ -101,7 +107,7 @@ pub record IsComputing (f : LowFunc) (o : Node) (i : Instr) : Type 0 where
   pub literal : literal_bits (carried i.attr) ≡ literal_bits o.attr
   pub compare : (w x y : ℕ) → compared_at w (carried i.attr) x y ≡ compared_at w o.attr x y
   pub result : low.result_width f i ≡ source.result_width o
-  pub operand : low.operand_width f i ≡ source.written_width o
+  pub operand : ReadsWidth m → low.operand_width f i ≡ source.written_width o
 
 -- ---- shared state
 

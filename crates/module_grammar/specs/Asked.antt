@@ -1,8 +1,8 @@
 -- What is asked of the machine behind tokens.
 use Rattle.std.specs.Prelude.{Option, Some}
 use Rattle.op_table.specs.declared.rows.Level.{Level}
-use Rattle.module_grammar.specs.declared.reader.Asked.{Asked}
-use Rattle.module_grammar.specs.declared.reader.Asked.TheVariants as asked
+use Rattle.module_grammar.specs.declared.machine.reader.Asked.{Asked}
+use Rattle.module_grammar.specs.declared.machine.reader.Asked.TheVariants as asked
 use Rattle.module_grammar.specs.declared.faults.TextLimits.{TextLimits}
 use Rattle.module_grammar.specs.declared.faults.GrammarFault.{GrammarFault}
 use Rattle.module_grammar.specs.declared.state.State.{State}

@@ -6,8 +6,8 @@ use Rattle.module_grammar.specs.declared.symbols.Act.TheVariants as act
 use Rattle.module_grammar.specs.declared.symbols.Symbol.{Symbol}
 use Rattle.module_grammar.specs.declared.symbols.Rule.{Rule}
 use Rattle.module_grammar.specs.declared.symbols.Rule.TheVariants as rule
-use Rattle.module_grammar.specs.declared.rows.Row.{Row}
-use Rattle.module_grammar.specs.declared.choose.Choice.{Choice}
+use Rattle.module_grammar.specs.declared.machine.rows.Row.{Row}
+use Rattle.module_grammar.specs.declared.machine.choose.Choice.{Choice}
 use Rattle.module_grammar.specs.Engine.{Line}
 use Rattle.module_grammar.specs.Rules.{doing, form, ends, forms_then, kinds_at}
 

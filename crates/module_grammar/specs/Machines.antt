@@ -1,7 +1,7 @@
 -- The place at which a machine stands.
 use Rattle.std.specs.Prelude.{◌≡◌, Bool, true, false, List, [], ◌∷◌, ◌++◌, reverse, Option, Some, None, Err}
 use Rattle.op_table.specs.declared.rows.Level.{Level}
-use Rattle.module_grammar.specs.declared.machine.Machine.{Machine}
+use Rattle.module_grammar.specs.declared.machine.stack.Machine.{Machine}
 use Rattle.module_grammar.specs.declared.faults.TextLimits.{TextLimits}
 use Rattle.module_grammar.specs.declared.faults.GrammarFault.{GrammarFault}
 use Rattle.module_grammar.specs.declared.state.TextToken.{TextToken}

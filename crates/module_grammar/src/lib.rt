@@ -3,40 +3,23 @@
 #![tactic(auto)]
 
 mod acts;
-mod bytes;
-mod choose;
-mod classes;
-mod copies;
-mod counting;
-mod dispatch;
 mod faults;
-mod forms;
 mod laws;
-mod limits;
 mod machine;
 mod names;
-mod numbers;
-mod params;
-mod parts;
-mod places;
-mod reader;
-mod refusal;
-mod region_acts;
-mod room;
-mod rows;
+mod plain;
+mod refusals;
 mod sought;
 mod state;
-mod strings;
 mod symbols;
-mod token_acts;
 mod types;
 mod words;
 
-pub use bytes::Bytes;
 pub use faults::{GrammarFault, Limited, TextLimits};
 pub use laws::{accepts_exactly, names_first_fault};
-pub use reader::read;
+pub use machine::reader::read;
 pub use sought::Sought;
 pub use state::{DictEntry, Name, OpenBody, OpenFunc, OpenOp, Outer, Param, State, TextToken};
 pub use symbols::{Act, Class, Keyword, Rule, Symbol};
 pub use types::DimSoFar;
+pub use words::bytes::Bytes;

@@ -4,7 +4,7 @@ ghost use Rattle.std.specs.List.{find};
 ghost use Rattle.std.specs.Option.{option_copied};
 ghost use Rattle.module_grammar.specs.State.{first_of, part_of, resolved, resolved_at, is_named, counted_from, values_of_name, values_of, with_names, count_of};
 
-use crate::counting::{number_up, up};
+use crate::plain::counting::{number_up, up};
 use crate::state::Name;
 use ir_forms::ValueNo;
 use lists::Items;

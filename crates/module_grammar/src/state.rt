@@ -1,5 +1,5 @@
 //! What is built while a text is read: the functions so far, what is open, and the names that are visible.
-use crate::bytes::Bytes;
+use crate::words::bytes::Bytes;
 use ir_forms::{Attr, Func, Op, OpKind, Region, Ty, ValueNo};
 use lists::Items;
 use mlir_lex::TokenKind;

@@ -4,7 +4,7 @@ ghost use Rattle.module_grammar.specs.Tokens.{among, widths, cells, bang_types, 
 ghost use Rattle.module_grammar.specs.declared.types.DimSoFar.TheVariants as so_far;
 
 use crate::state::TextToken;
-use crate::words::among;
+use crate::words::names::among;
 use ir_forms::{CellTy, Dim, MemTy, NumTy, Ty, ValTy, Width};
 use lists::Items;
 use mlir_lex::TokenKind;

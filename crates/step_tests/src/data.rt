@@ -5,16 +5,30 @@ use crate::make::{
 };
 use low_forms::OpKind;
 
-/// Stores 77 in one of so many cells, and loads it.
-pub(crate) fn stores_and_loads(cells: u64, at: u64) -> [Line; 8] {
+/// Stores 77 in a cell of three, and loads it.
+pub(crate) fn stores_and_loads() -> [Line; 8] {
     [
-        number(cells, A),
+        number(3, A),
         row(OpKind::MemrefAlloc, [A, NO, NO], BUFFER),
-        number(at, B),
+        number(2, B),
         number(77, C),
         row(OpKind::MemrefStore, [C, BUFFER, B], NO),
         row(OpKind::MemrefLoad, [BUFFER, B, NO], A),
         on(OpKind::MemrefDealloc, BUFFER),
+        ends(on(OpKind::FuncReturn, A), [NO, NO, NO]),
+    ]
+}
+
+/// Allocates as many cells as may be, stores 1 in the last and loads it, and allocates so many more.
+pub(crate) fn fills_memory() -> [Line; 8] {
+    [
+        number(16_777_216, A),
+        row(OpKind::MemrefAlloc, [A, NO, NO], BUFFER),
+        number(16_777_215, B),
+        number(1, C),
+        row(OpKind::MemrefStore, [C, BUFFER, B], NO),
+        row(OpKind::MemrefLoad, [BUFFER, B, NO], A),
+        row(OpKind::MemrefAlloc, [A, NO, NO], BUFFER),
         ends(on(OpKind::FuncReturn, A), [NO, NO, NO]),
     ]
 }
@@ -119,7 +133,7 @@ pub(crate) fn adds_to_two(set: OpKind, last: Line) -> [Line; 11] {
     ]
 }
 
-/// Adds a token so many times to a group of no elements, or of two, and returns its last place.
+/// Adds a token twice to a group of this size, and returns its place.
 pub(crate) fn fills(size: u64) -> [Line; 6] {
     [
         number(size, A),

@@ -1,8 +1,12 @@
 use crate::data::{
     adds, adds_to_two, adds_twice, allocates, awaits_task, casts, compares, computes, deeper,
-    fills, launches_two, nine_tokens, nothing, stores_and_loads, task, value_new, value_used,
+    fills, fills_memory, launches_two, nine_tokens, nothing, stores_and_loads, task, value_new,
+    value_used,
 };
-use crate::make::{A, BIT, GROUP, Line, NO, OTHER_GROUP, VALUE, counts, module, on, row};
+use crate::make::{
+    A, BIT, GROUP, HANDLE, Line, NO, OTHER_GROUP, STATE, TOKEN, VALUE, counts, ends, module, on,
+    row,
+};
 use ir_forms::{FuncNo, TaskNo};
 use low_forms::OpKind;
 use std::alloc::{AllocError, Global};
@@ -107,7 +111,7 @@ fn cells_and_limits(rt: HostRuntime) -> Result<(), Fail> {
     assert!(rt;
         holds(
             alloc,
-            &stores_and_loads(3, 2),
+            &stores_and_loads(),
             &none,
             &[(1, 1, Step::NotReady), (0, 8, fine), (0, 1, Step::NotReady)],
             (0, 0, 8, Ending::Returned(77))
@@ -183,45 +187,22 @@ fn cells_and_limits(rt: HostRuntime) -> Result<(), Fail> {
 
 #[test]
 fn as_many_cells_as_may_be(rt: HostRuntime) -> Result<(), Fail> {
-    let alloc = rt.alloc();
-    let none = nothing();
-    let fine = Step::Stepped;
     let full = Step::Stop(Limit::Cells { used: 16_777_216 });
     assert!(rt;
         holds_within(
-            alloc,
-            &stores_and_loads(16_777_216, 16_777_215),
-            &none,
+            rt.alloc(),
+            &fills_memory(),
+            &nothing(),
             WIDE,
-            &[(0, 8, fine)],
-            (0, 0, 8, Ending::Returned(77))
-        )?
-    );
-    assert!(rt;
-        holds_within(
-            alloc,
-            &stores_and_loads(16_777_216, 16_777_216),
-            &none,
-            WIDE,
-            &[(0, 4, fine), (0, 1, Step::NotReady)],
-            (0, 0, 4, Ending::None)
-        )?
-    );
-    assert!(rt;
-        holds_within(
-            alloc,
-            &allocates(16_777_216, 1),
-            &none,
-            WIDE,
-            &[(0, 3, fine), (0, 1, full)],
-            (0, 0, 3, Ending::None)
+            &[(0, 6, Step::Stepped), (0, 1, full)],
+            (0, 0, 6, Ending::None)
         )?
     );
     Ok(())
 }
 
 /// Operations, two numbers, and the result, if there is one.
-const NUMBERS: [(OpKind, u64, u64, Option<u64>); 27] = [
+const NUMBERS: [(OpKind, u64, u64, Option<u64>); 26] = [
     (OpKind::ArithAddi, u64::MAX, 2, Some(1)),
     (OpKind::ArithSubi, 1, 2, Some(u64::MAX)),
     (OpKind::ArithMuli, u64::MAX, u64::MAX, Some(1)),
@@ -248,7 +229,6 @@ const NUMBERS: [(OpKind, u64, u64, Option<u64>); 27] = [
     (OpKind::ArithMinsi, u64::MAX, 1, Some(u64::MAX)),
     (OpKind::ArithIndexCast, 7, 0, Some(7)),
     (OpKind::ArithIndexCastui, 7, 0, Some(7)),
-    (OpKind::CfBr, 7, 0, None),
 ];
 
 #[test]
@@ -426,7 +406,21 @@ fn values(rt: HostRuntime) -> Result<(), Fail> {
             )?
         );
     }
-    for line in [load, look, drop_all] {
+    for line in [
+        load,
+        look,
+        drop_all,
+        on(OpKind::AsyncRuntimeAwait, TOKEN),
+        on(OpKind::AsyncRuntimeResume, HANDLE),
+        row(OpKind::AsyncRuntimeAwaitAndResume, [VALUE, HANDLE, NO], NO),
+        on(OpKind::AsyncRuntimeSetError, GROUP),
+        row(OpKind::AsyncRuntimeAddToGroup, [VALUE, TOKEN, NO], A),
+        row(OpKind::MemrefLoad, [VALUE, A, NO], A),
+        row(OpKind::MemrefStore, [A, VALUE, A], NO),
+        row(OpKind::MemrefDim, [VALUE, A, NO], A),
+        on(OpKind::AsyncCoroSuspend, STATE),
+        ends(on(OpKind::AioFinish, NO), [NO, NO, NO]),
+    ] {
         assert!(rt;
             holds(
                 alloc,

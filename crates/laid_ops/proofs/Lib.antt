@@ -1,0 +1,4 @@
+pub mod Scopes
+pub mod Leaves
+pub mod Laying
+pub mod Whole
