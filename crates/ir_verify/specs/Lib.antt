@@ -10,7 +10,7 @@ pub mod Names
 pub mod Places
 pub mod Rules
 pub mod Scopes
-pub mod Sites
+pub mod Standing
 pub mod Types
 pub mod Verdict
 pub mod Verified

@@ -5,7 +5,7 @@ ghost use Rattle.ir_verify.specs.Breaks.{some_at, operand_breaks, written_breaks
 ghost use Rattle.std.specs.Option.{option_copied};
 ghost use Rattle.ir_verify.specs.Forms.{form};
 ghost use Rattle.ir_verify.specs.Places.{types_of, params_of};
-ghost use Rattle.ir_verify.specs.Sites.{place_at};
+ghost use Rattle.ir_verify.specs.Standing.{place_at};
 
 use crate::fault::{Broken, VerifyKind, noted};
 use crate::form::{end_asked, ends, form_of, is_ending};
@@ -15,7 +15,7 @@ use crate::rules::{
     types_asked, written_asked, written_fits,
 };
 use crate::scope::Scope;
-use crate::site::Site;
+use crate::standing::Place;
 use crate::types::has_async_cells;
 use ir_forms::{Func, Op, Region, Ty, ValueNo};
 use op_table::{Form, row};
@@ -23,38 +23,38 @@ use op_table::{Form, row};
 fn operand_breaks(
     kind: VerifyKind,
     scope: &Scope,
-    site: &Site,
+    here: &Place,
     place: usize,
     value: ValueNo,
 ) -> bool
-    ensures { result ≡ operand_breaks kind scope.now (place_at site.now) place value }
+    ensures { result ≡ operand_breaks kind scope.now (place_at here.now) place value }
 {
     match kind {
         VerifyKind::Undefined => !scope.has(value),
         VerifyKind::TypeMismatch => match scope.get(value) {
-            Some(t) => !operand_fits(site, place, t),
+            Some(t) => !operand_fits(here, place, t),
             None => false,
         },
         _ => false,
     }
 }
 
-fn written_breaks(kind: VerifyKind, site: &Site, place: usize, t: &Ty) -> bool
+fn written_breaks(kind: VerifyKind, here: &Place, place: usize, t: &Ty) -> bool
     requires { place < 2 ^ 64 - 1 }
-    ensures { result ≡ written_breaks kind (place_at site.now) place t.now }
+    ensures { result ≡ written_breaks kind (place_at here.now) place t.now }
 {
     match kind {
-        VerifyKind::TypeMismatch => !written_fits(site, place, t),
+        VerifyKind::TypeMismatch => !written_fits(here, place, t),
         VerifyKind::AsyncInMemref => has_async_cells(t),
         _ => false,
     }
 }
 
-fn result_breaks(kind: VerifyKind, site: &Site, place: usize, t: &Ty) -> bool
-    ensures { result ≡ result_breaks kind (place_at site.now) place t.now }
+fn result_breaks(kind: VerifyKind, here: &Place, place: usize, t: &Ty) -> bool
+    ensures { result ≡ result_breaks kind (place_at here.now) place t.now }
 {
     match kind {
-        VerifyKind::TypeMismatch => !result_fits(site, place, t),
+        VerifyKind::TypeMismatch => !result_fits(here, place, t),
         VerifyKind::AsyncInMemref => has_async_cells(t),
         _ => false,
     }
@@ -87,36 +87,36 @@ fn some_param(kind: VerifyKind, op: &Op, region: usize, params: &[(ValueNo, Ty)]
     false
 }
 
-fn some_operand(kind: VerifyKind, scope: &Scope, site: &Site) -> bool
-    ensures { result ≡ some_at (operand_breaks kind scope.now (place_at site.now)) (operands_of site.now.op.now) }
+fn some_operand(kind: VerifyKind, scope: &Scope, here: &Place) -> bool
+    ensures { result ≡ some_at (operand_breaks kind scope.now (place_at here.now)) (operands_of here.now.op.now) }
 {
-    let values = site.op.operands.as_slice();
+    let values = here.op.operands.as_slice();
     for (place, value) in values.iter().enumerate() {
-        if operand_breaks(kind, scope, site, place, *value) {
+        if operand_breaks(kind, scope, here, place, *value) {
             return true;
         }
     }
     false
 }
 
-fn some_written(kind: VerifyKind, site: &Site) -> bool
-    ensures { result ≡ some_at (written_breaks kind (place_at site.now)) (written_of site.now.op.now) }
+fn some_written(kind: VerifyKind, here: &Place) -> bool
+    ensures { result ≡ some_at (written_breaks kind (place_at here.now)) (written_of here.now.op.now) }
 {
-    let types = site.op.written.as_slice();
+    let types = here.op.written.as_slice();
     for (place, t) in types.iter().enumerate() {
-        if written_breaks(kind, site, place, t) {
+        if written_breaks(kind, here, place, t) {
             return true;
         }
     }
     false
 }
 
-fn some_result(kind: VerifyKind, site: &Site) -> bool
-    ensures { result ≡ some_at (result_breaks kind (place_at site.now)) (types_of site.now.op.now) }
+fn some_result(kind: VerifyKind, here: &Place) -> bool
+    ensures { result ≡ some_at (result_breaks kind (place_at here.now)) (types_of here.now.op.now) }
 {
-    let types = site.op.types.as_slice();
+    let types = here.op.types.as_slice();
     for (place, t) in types.iter().enumerate() {
-        if result_breaks(kind, site, place, t) {
+        if result_breaks(kind, here, place, t) {
             return true;
         }
     }
@@ -204,13 +204,13 @@ fn would_block(nest: Nest, is_called: bool) -> bool
 }
 
 /// Whether a list of the operation has another length than is asked.
-fn miscounts(site: &Site) -> bool
-    ensures { result ≡ miscounts (place_at site.now) }
+fn miscounts(here: &Place) -> bool
+    ensures { result ≡ miscounts (place_at here.now) }
 {
-    let op = site.op;
+    let op = here.op;
     !operands_counted(op)
-        || op.written.len() != written_asked(site)
-        || op.types.len() != types_asked(site)
+        || op.written.len() != written_asked(here)
+        || op.types.len() != types_asked(here)
         || op.results.len() != op.types.len()
         || op.regions.len() != row(op.kind).regions as usize
         || !groups_fit(op)
@@ -225,68 +225,68 @@ fn tries_results(form: Form, callee: Option<&Func>) -> bool
     }
 }
 
-fn own_breaks(kind: VerifyKind, site: &Site) -> bool
-    ensures { result ≡ own_breaks kind (place_at site.now) }
+fn own_breaks(kind: VerifyKind, here: &Place) -> bool
+    ensures { result ≡ own_breaks kind (place_at here.now) }
 {
-    let form = form_of(site.op);
+    let form = form_of(here.op);
     match kind {
         VerifyKind::TypeMismatch => matches!(form, Form::Other),
-        VerifyKind::Terminator => is_ending(form) && !is_in_place(site),
-        VerifyKind::UnknownFunc => is_call(form) && site.callee.is_none(),
-        VerifyKind::Arity => miscounts(site) || tries_results(form, site.callee),
+        VerifyKind::Terminator => is_ending(form) && !is_in_place(here),
+        VerifyKind::UnknownFunc => is_call(form) && here.callee.is_none(),
+        VerifyKind::Arity => miscounts(here) || tries_results(form, here.callee),
         VerifyKind::BlockingAwait => {
-            is_await(form) && would_block(site.scene.nest, site.scene.is_called)
+            is_await(form) && would_block(here.around.nest, here.around.is_called)
         }
         VerifyKind::Undefined | VerifyKind::AsyncInMemref => false,
     }
 }
 
-fn breaks_at_itself_or_region(kind: VerifyKind, site: &Site) -> bool
-    ensures { result ≡ (own_breaks kind (place_at site.now) || some_at (region_breaks kind site.now.op.now) (regions_of site.now.op.now)) }
+fn breaks_at_itself_or_region(kind: VerifyKind, here: &Place) -> bool
+    ensures { result ≡ (own_breaks kind (place_at here.now) || some_at (region_breaks kind here.now.op.now) (regions_of here.now.op.now)) }
 {
-    own_breaks(kind, site) || some_region(kind, site.op)
+    own_breaks(kind, here) || some_region(kind, here.op)
 }
 
-fn breaks_at_type(kind: VerifyKind, site: &Site) -> bool
-    ensures { result ≡ (some_at (written_breaks kind (place_at site.now)) (written_of site.now.op.now) || (some_at (result_breaks kind (place_at site.now)) (types_of site.now.op.now) || some_at (region_breaks kind site.now.op.now) (regions_of site.now.op.now))) }
+fn breaks_at_type(kind: VerifyKind, here: &Place) -> bool
+    ensures { result ≡ (some_at (written_breaks kind (place_at here.now)) (written_of here.now.op.now) || (some_at (result_breaks kind (place_at here.now)) (types_of here.now.op.now) || some_at (region_breaks kind here.now.op.now) (regions_of here.now.op.now))) }
 {
-    some_written(kind, site) || some_result(kind, site) || some_region(kind, site.op)
+    some_written(kind, here) || some_result(kind, here) || some_region(kind, here.op)
 }
 
 /// Whether the operation breaks the rule of a kind: by itself, at an operand, at a written type, at
 /// a result, or at one of its regions. Of these a kind asks only what can break its rule.
-pub(crate) fn breaks(kind: VerifyKind, scope: &Scope, site: &Site) -> bool
-    ensures { result ≡ breaks kind (record { seen = scope.now; place = place_at site.now }) }
+pub(crate) fn breaks(kind: VerifyKind, scope: &Scope, here: &Place) -> bool
+    ensures { result ≡ breaks kind (record { seen = scope.now; place = place_at here.now }) }
 {
     match kind {
-        VerifyKind::Undefined => some_operand(kind, scope, site),
+        VerifyKind::Undefined => some_operand(kind, scope, here),
         VerifyKind::TypeMismatch => {
-            own_breaks(kind, site) || some_operand(kind, scope, site) || breaks_at_type(kind, site)
+            own_breaks(kind, here) || some_operand(kind, scope, here) || breaks_at_type(kind, here)
         }
-        VerifyKind::Terminator => breaks_at_itself_or_region(kind, site),
-        VerifyKind::UnknownFunc => own_breaks(kind, site),
-        VerifyKind::Arity => breaks_at_itself_or_region(kind, site),
-        VerifyKind::AsyncInMemref => breaks_at_type(kind, site),
-        VerifyKind::BlockingAwait => own_breaks(kind, site),
+        VerifyKind::Terminator => breaks_at_itself_or_region(kind, here),
+        VerifyKind::UnknownFunc => own_breaks(kind, here),
+        VerifyKind::Arity => breaks_at_itself_or_region(kind, here),
+        VerifyKind::AsyncInMemref => breaks_at_type(kind, here),
+        VerifyKind::BlockingAwait => own_breaks(kind, here),
     }
 }
 
 /// The earliest fault so far, with all those of an operation counted.
-pub(crate) fn noted_spot(scope: &Scope, site: &Site, best: Option<Broken>) -> Option<Broken>
-    ensures { result ≡ noted_spot (record { seen = scope.now; place = place_at site.now }) best }
+pub(crate) fn noted_spot(scope: &Scope, here: &Place, best: Option<Broken>) -> Option<Broken>
+    ensures { result ≡ noted_spot (record { seen = scope.now; place = place_at here.now }) best }
 {
-    let best = noted_kind(VerifyKind::Undefined, scope, site, best);
-    let best = noted_kind(VerifyKind::TypeMismatch, scope, site, best);
-    let best = noted_kind(VerifyKind::Terminator, scope, site, best);
-    let best = noted_kind(VerifyKind::UnknownFunc, scope, site, best);
-    let best = noted_kind(VerifyKind::Arity, scope, site, best);
-    let best = noted_kind(VerifyKind::AsyncInMemref, scope, site, best);
-    noted_kind(VerifyKind::BlockingAwait, scope, site, best)
+    let best = noted_kind(VerifyKind::Undefined, scope, here, best);
+    let best = noted_kind(VerifyKind::TypeMismatch, scope, here, best);
+    let best = noted_kind(VerifyKind::Terminator, scope, here, best);
+    let best = noted_kind(VerifyKind::UnknownFunc, scope, here, best);
+    let best = noted_kind(VerifyKind::Arity, scope, here, best);
+    let best = noted_kind(VerifyKind::AsyncInMemref, scope, here, best);
+    noted_kind(VerifyKind::BlockingAwait, scope, here, best)
 }
 
-fn noted_kind(kind: VerifyKind, scope: &Scope, site: &Site, best: Option<Broken>) -> Option<Broken>
-    ensures { result ≡ noted_kind kind (record { seen = scope.now; place = place_at site.now }) best }
+fn noted_kind(kind: VerifyKind, scope: &Scope, here: &Place, best: Option<Broken>) -> Option<Broken>
+    ensures { result ≡ noted_kind kind (record { seen = scope.now; place = place_at here.now }) best }
 {
-    let op = site.op.at;
-    noted(best, breaks(kind, scope, site), Broken { op, kind })
+    let op = here.op.at;
+    noted(best, breaks(kind, scope, here), Broken { op, kind })
 }

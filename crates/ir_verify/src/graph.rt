@@ -8,7 +8,7 @@ use crate::calls::{Call, call_to, marks};
 use crate::form::form_of;
 use crate::names::Names;
 use crate::place::Nest;
-use crate::site::nest_in;
+use crate::standing::nest_in;
 use ir_forms::{Func, Op, Region};
 use lists::Items;
 use std::alloc::{AllocError, Global};

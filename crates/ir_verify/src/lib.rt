@@ -15,7 +15,7 @@ mod outcome;
 mod place;
 mod rules;
 mod scope;
-mod site;
+mod standing;
 pub mod types;
 mod verdict;
 mod verified;

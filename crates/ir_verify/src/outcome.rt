@@ -1,9 +1,7 @@
 //! The verifier's answer.
-ghost use Rattle.std.specs.Prelude.{◌≡◌, IfOk, IfErr, Ok};
+ghost use Rattle.std.specs.Prelude.{◌≡◌};
 ghost use Rattle.ir_forms.specs.declared.types.Ty.TheVariants.{Untyped};
 ghost use Rattle.ir_verify.specs.Answer.{IsAnswer};
-ghost use Rattle.ir_verify.specs.Levels.{level_of};
-ghost use Rattle.ir_verify.specs.Verdict.{IsVerdict};
 
 use crate::fault::{Broken, VerifyKind};
 use crate::verdict::judge;
@@ -23,27 +21,13 @@ pub enum VerifyFault {
     OutOfMemory,
 }
 
-#[tactic(auto, using(crate::proofs::VerdictLemmas::verdict_is))]
-fn verdict<'a>(
-    alloc: Global,
-    untyped: &'a Ty,
-    funcs: &'a [Func],
-) -> Result<(Option<Broken>, Level), AllocError>
-    requires { untyped.now ≡ Untyped }
-    ensures fault { IfOk result (λ r. IsVerdict funcs.now r.0) }
-    ensures level { IfOk result (λ r. r.1 ≡ level_of funcs.now) }
-{
-    let judged = judge(alloc, untyped, funcs)?;
-    Ok(judged)
-}
-
 /// Whether a module breaks no rule. `Fault` names the least operation that breaks one, and there the
 /// first kind; the answer is the module as it was.
 pub fn verify(alloc: Global, program: Module) -> Result<Verified, VerifyFault>
     ensures { IsAnswer program result }
 {
     let untyped = Ty::Untyped;
-    match verdict(alloc, &untyped, program.funcs.as_slice()) {
+    match judge(alloc, &untyped, program.funcs.as_slice()) {
         Err(AllocError) => Err(VerifyFault::OutOfMemory),
         Ok((Some(Broken { op, kind }), _)) => Err(VerifyFault::Fault { op, kind }),
         Ok((None, level)) => Ok(Verified::of_pass(program, level)),

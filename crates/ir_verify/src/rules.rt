@@ -3,13 +3,13 @@ ghost use Rattle.std.specs.Prelude.{◌≡◌, ◌+◌, ◌-◌, ◌*◌, ◌<�
 ghost use Rattle.std.specs.Option.{option_copied};
 ghost use Rattle.ir_forms.specs.Ops.{operands_of, regions_of, written_of};
 ghost use Rattle.ir_verify.specs.Places.{params_of, types_of};
-ghost use Rattle.ir_verify.specs.Sites.{around_of, place_at};
+ghost use Rattle.ir_verify.specs.Standing.{around_of, place_at};
 ghost use Rattle.ir_verify.specs.Forms.{form};
 ghost use Rattle.ir_verify.specs.Types.{same_type, holds, is_element, is_value, dims_of, open_dims, extends, truncates, casts_index};
 ghost use Rattle.ir_verify.specs.Rules.{first_type, is_asked, is_held, group, groups_of, dimensions, first_params, end_around, is_in_place, given_types, end_type_in, end_type, end_length_in, end_length, param_type, result_type, param_length, result_length, select_operand, for_operand, condition_operand, indexes, load_operand, store_operand, dim_operand, member_operand, bound_place, task_operand, operand_fits, operands_given, operands_asked, written_fits, end_asks, written_asked, task_result, result_fits, types_given, types_asked, for_param, while_types, param_fits, params_fit, are_groups, are_task_groups, groups_fit};
 
 use crate::form::{end_asked, ends, form_of};
-use crate::site::{Scene, Site};
+use crate::standing::{Around, Place};
 use crate::types::{
     casts_index, extends, holds, is_awaitable, is_element, is_group, is_index, is_memref,
     is_number, is_token, is_truth, is_value, literal_fits, open_rank, rank, same_type, truncates,
@@ -151,30 +151,30 @@ fn dimensions(op: &Op) -> usize
 }
 
 /// What ends the region round an operation.
-fn end_around(scene: &Scene) -> Form
-    ensures { result ≡ end_around (option_copied scene.now.holder) scene.now.region }
+fn end_around(around: &Around) -> Form
+    ensures { result ≡ end_around (option_copied around.now.holder) around.now.region }
 {
-    match scene.holder {
+    match around.holder {
         None => Form::Return,
-        Some(holder) => end_asked(form_of(holder), scene.region),
+        Some(holder) => end_asked(form_of(holder), around.region),
     }
 }
 
 /// Whether the operation ends its region as the region asks.
-pub(crate) fn is_in_place(site: &Site) -> bool
-    ensures { result ≡ is_in_place (place_at site.now) }
+pub(crate) fn is_in_place(here: &Place) -> bool
+    ensures { result ≡ is_in_place (place_at here.now) }
 {
-    site.is_last && ends(end_around(&site.scene), form_of(site.op))
+    here.is_last && ends(end_around(&here.around), form_of(here.op))
 }
 
 /// The type at a place of what the end of the region round the operation gives.
-fn end_type<'a>(scene: &Scene<'a>, place: usize) -> Option<&'a Ty>
+fn end_type<'a>(around: &Around<'a>, place: usize) -> Option<&'a Ty>
     requires { place < 2 ^ 64 - 1 }
-    ensures { option_copied result ≡ end_type (around_of scene.now) place }
+    ensures { option_copied result ≡ end_type (around_of around.now) place }
 {
-    match scene.holder {
-        None => scene.func.results.get(place),
-        Some(holder) => end_type_in(holder, scene.region, place),
+    match around.holder {
+        None => around.func.results.get(place),
+        Some(holder) => end_type_in(holder, around.region, place),
     }
 }
 
@@ -190,12 +190,12 @@ fn end_type_in(holder: &Op, region: usize, place: usize) -> Option<&Ty>
 }
 
 /// How many types the end of the region round the operation gives.
-fn end_length(scene: &Scene) -> usize
-    ensures { result ≡ end_length (around_of scene.now) }
+fn end_length(around: &Around) -> usize
+    ensures { result ≡ end_length (around_of around.now) }
 {
-    match scene.holder {
-        None => scene.func.results.len(),
-        Some(holder) => end_length_in(holder, scene.region),
+    match around.holder {
+        None => around.func.results.len(),
+        Some(holder) => end_length_in(holder, around.region),
     }
 }
 
@@ -353,10 +353,10 @@ fn task_operand(op: &Op, place: usize, t: &Ty) -> bool
 }
 
 /// Whether the operand at a place may have this type.
-pub(crate) fn operand_fits(site: &Site, place: usize, t: &Ty) -> bool
-    ensures { result ≡ operand_fits (form site.now.op.now) (place_at site.now) place t.now }
+pub(crate) fn operand_fits(here: &Place, place: usize, t: &Ty) -> bool
+    ensures { result ≡ operand_fits (form here.now.op.now) (place_at here.now) place t.now }
 {
-    let op = site.op;
+    let op = here.op;
     match form_of(op) {
         Form::Binary | Form::Compare | Form::Extend | Form::Truncate | Form::IndexCast => {
             is_first(&op.written, t)
@@ -382,21 +382,21 @@ pub(crate) fn operand_fits(site: &Site, place: usize, t: &Ty) -> bool
 }
 
 /// Whether the written type at a place may be this one.
-pub(crate) fn written_fits(site: &Site, place: usize, t: &Ty) -> bool
+pub(crate) fn written_fits(here: &Place, place: usize, t: &Ty) -> bool
     requires { place < 2 ^ 64 - 1 }
-    ensures { result ≡ written_fits (form site.now.op.now) (place_at site.now) place t.now }
+    ensures { result ≡ written_fits (form here.now.op.now) (place_at here.now) place t.now }
 {
-    let op = site.op;
+    let op = here.op;
     match form_of(op) {
         Form::Binary | Form::Compare | Form::Select => is_number(t) && is_first(&op.written, t),
         Form::Extend => extends_to_first(t, &op.types),
         Form::Truncate => truncates_to_first(t, &op.types),
         Form::IndexCast => casts_index_to_first(t, &op.types),
-        Form::Call | Form::TryCall => is_param(site.callee, place, t),
+        Form::Call | Form::TryCall => is_param(here.callee, place, t),
         Form::Return | Form::Yield | Form::Condition => {
-            !is_in_place(site) || is_asked(end_type(&site.scene, place), t)
+            !is_in_place(here) || is_asked(end_type(&here.around, place), t)
         }
-        Form::TaskYield => !is_in_place(site) || is_held(end_type(&site.scene, place), t),
+        Form::TaskYield => !is_in_place(here) || is_held(end_type(&here.around, place), t),
         Form::Dealloc | Form::Load | Form::Store | Form::Dim => is_memref(t),
         Form::Execute => is_value(t),
         Form::Await | Form::AddToGroup => is_awaitable(t),
@@ -405,15 +405,15 @@ pub(crate) fn written_fits(site: &Site, place: usize, t: &Ty) -> bool
 }
 
 /// Whether the result at a place may have this type.
-pub(crate) fn result_fits(site: &Site, place: usize, t: &Ty) -> bool
-    ensures { result ≡ result_fits (form site.now.op.now) (place_at site.now) place t.now }
+pub(crate) fn result_fits(here: &Place, place: usize, t: &Ty) -> bool
+    ensures { result ≡ result_fits (form here.now.op.now) (place_at here.now) place t.now }
 {
-    let op = site.op;
+    let op = here.op;
     match form_of(op) {
         Form::Binary | Form::Select => is_first(&op.written, t),
         Form::Compare | Form::TryCall => is_truth(t),
         Form::Constant => literal_fits(&op.attr, t),
-        Form::Call => is_result(site.callee, place, t),
+        Form::Call => is_result(here.callee, place, t),
         Form::Alloc => is_memref(t),
         Form::Load => is_first_element(&op.written, t),
         Form::Dim | Form::AddToGroup => is_index(t),
@@ -483,39 +483,39 @@ pub(crate) fn operands_counted(op: &Op) -> bool
 }
 
 /// How many written types the end of a region has.
-fn end_asks(site: &Site) -> usize
-    ensures { result ≡ end_asks (place_at site.now) }
+fn end_asks(here: &Place) -> usize
+    ensures { result ≡ end_asks (place_at here.now) }
 {
-    if is_in_place(site) {
-        end_length(&site.scene)
+    if is_in_place(here) {
+        end_length(&here.around)
     } else {
-        site.op.written.len()
+        here.op.written.len()
     }
 }
 
 /// How many written types there are.
-pub(crate) fn written_asked(site: &Site) -> usize
-    ensures { result ≡ written_asked (form site.now.op.now) (place_at site.now) }
+pub(crate) fn written_asked(here: &Place) -> usize
+    ensures { result ≡ written_asked (form here.now.op.now) (place_at here.now) }
 {
-    let op = site.op;
+    let op = here.op;
     match form_of(op) {
         Form::Binary | Form::Compare | Form::Select => 2,
         Form::Extend | Form::Truncate | Form::IndexCast | Form::Await | Form::AddToGroup => 1,
         Form::Dealloc | Form::Load | Form::Store | Form::Dim => 1,
-        Form::Call | Form::TryCall => param_length(site.callee, op.written.len()),
-        Form::Return | Form::Yield | Form::Condition | Form::TaskYield => end_asks(site),
+        Form::Call | Form::TryCall => param_length(here.callee, op.written.len()),
+        Form::Return | Form::Yield | Form::Condition | Form::TaskYield => end_asks(here),
         Form::While | Form::Execute => op.written.len(),
         _ => 0,
     }
 }
 
 /// How many types an operation of this form gives its results, where its row has no count.
-fn types_given(site: &Site) -> usize
-    ensures { result ≡ types_given (form site.now.op.now) (place_at site.now) }
+fn types_given(here: &Place) -> usize
+    ensures { result ≡ types_given (form here.now.op.now) (place_at here.now) }
 {
-    let op = site.op;
+    let op = here.op;
     match form_of(op) {
-        Form::Call => result_length(site.callee, op.types.len()),
+        Form::Call => result_length(here.callee, op.types.len()),
         Form::Execute => op.types.len().max(1),
         Form::Await => { if first_is_value(&op.written) { 1 } else { 0 } }
         _ => op.types.len(),
@@ -523,12 +523,12 @@ fn types_given(site: &Site) -> usize
 }
 
 /// How many types the operation gives its results.
-pub(crate) fn types_asked(site: &Site) -> usize
-    ensures { result ≡ types_asked (place_at site.now) }
+pub(crate) fn types_asked(here: &Place) -> usize
+    ensures { result ≡ types_asked (place_at here.now) }
 {
-    match row(site.op.kind).results {
+    match row(here.op.kind).results {
         Count::Exactly(asked) => asked as usize,
-        Count::Any => types_given(site),
+        Count::Any => types_given(here),
     }
 }
 

@@ -2,7 +2,7 @@
 ghost use Rattle.std.specs.Prelude.{◌≡◌, IfOk};
 ghost use Rattle.ir_forms.specs.declared.types.Ty.TheVariants.{Untyped};
 ghost use Rattle.ir_verify.specs.Breaks.{some_at};
-ghost use Rattle.ir_verify.specs.Verdict.{func_breaks, is_place, noted_head, noted_func, noted_funcs, IsNoted, param_has_async, type_has_async};
+ghost use Rattle.ir_verify.specs.Verdict.{func_breaks, is_place, noted_head, noted_func, noted_funcs, IsVerdict, param_has_async, type_has_async};
 ghost use Rattle.ir_verify.specs.Levels.{level_of};
 
 use crate::breaks::lacks_end;
@@ -106,13 +106,14 @@ fn noted_funcs<'a>(
 }
 
 /// The earliest fault of a module's functions, if there is one, and their level.
+#[tactic(auto, using(crate::proofs::VerdictLemmas::verdict_is))]
 pub(crate) fn judge<'a>(
     alloc: Global,
     untyped: &'a Ty,
     funcs: &'a [Func],
 ) -> Result<(Option<Broken>, Level), AllocError>
     requires { untyped.now ≡ Untyped }
-    ensures fault { IfOk result (λ r. IsNoted funcs.now r.0) }
+    ensures fault { IfOk result (λ r. IsVerdict funcs.now r.0) }
     ensures level { IfOk result (λ r. r.1 ≡ level_of funcs.now) }
 {
     let names = Names::new(alloc, funcs)?;

@@ -4,13 +4,13 @@ ghost use Rattle.ir_forms.specs.Ops.{results_of};
 ghost use Rattle.ir_forms.specs.declared.types.Ty.TheVariants.{Untyped};
 ghost use Rattle.ir_verify.specs.Breaks.{noted_all};
 ghost use Rattle.ir_verify.specs.Places.{in_body, defined, types_of, params_of, places_at, places_in, type_at};
-ghost use Rattle.ir_verify.specs.Sites.{around_of};
+ghost use Rattle.ir_verify.specs.Standing.{around_of};
 
 use crate::breaks::noted_spot;
 use crate::fault::Broken;
 use crate::names::Names;
 use crate::scope::Scope;
-use crate::site::{Scene, Site};
+use crate::standing::{Around, Place};
 use ir_forms::{Func, Op, Region, Ty, ValueNo};
 use lists::Items;
 use std::alloc::{AllocError, Global};
@@ -68,23 +68,23 @@ impl<'a> Walk<'a> {
         names: &Names<'a>,
         untyped: &'a Ty,
         op: &'a Op,
-        scene: &Scene<'a>,
+        around: &Around<'a>,
         is_last: bool,
     ) -> Result<(), AllocError>
         requires { untyped.now ≡ Untyped }
         ensures seen { OnOk result (self.new.scope ≡ self.old.scope ++ defined (results_of op.now) (types_of op.now)) }
-        ensures best { OnOk result (self.new.best ≡ noted_all (places_at names.now op.now (around_of scene.now) self.old.scope is_last) self.old.best) }
+        ensures best { OnOk result (self.new.best ≡ noted_all (places_at names.now op.now (around_of around.now) self.old.scope is_last) self.old.best) }
     {
-        let site = Site {
-            scene: *scene,
+        let here = Place {
+            around: *around,
             is_last,
             callee: names.called(&op.attr),
             op,
         };
-        self.best = noted_spot(&self.scope, &site, self.best);
+        self.best = noted_spot(&self.scope, &here, self.best);
         let regions = op.regions.as_slice();
         for (place, region) in regions.iter().enumerate() {
-            self.walk_region(names, untyped, region, &scene.within(op, place))?;
+            self.walk_region(names, untyped, region, &around.within(op, place))?;
         }
         define(&mut self.scope, untyped, op.results.as_slice(), &op.types)
     }
@@ -96,18 +96,18 @@ impl<'a> Walk<'a> {
         names: &Names<'a>,
         untyped: &'a Ty,
         region: &'a Region,
-        scene: &Scene<'a>,
+        around: &Around<'a>,
     ) -> Result<(), AllocError>
         requires { untyped.now ≡ Untyped }
         ensures seen { OnOk result (self.new.scope ≡ self.old.scope) }
-        ensures best { OnOk result (self.new.best ≡ noted_all (places_in names.now region.now (around_of scene.now) self.old.scope) self.old.best) }
+        ensures best { OnOk result (self.new.best ≡ noted_all (places_in names.now region.now (around_of around.now) self.old.scope) self.old.best) }
     {
         let depth = self.scope.len();
         define_params(&mut self.scope, region.params.as_slice())?;
         let ops = region.ops.as_slice();
         for (place, op) in ops.iter().enumerate() {
             let is_last = place + 1 == ops.len();
-            self.walk_op(names, untyped, op, scene, is_last)?;
+            self.walk_op(names, untyped, op, around, is_last)?;
         }
         self.scope.truncate(depth);
         Ok(())
@@ -129,7 +129,7 @@ pub(crate) fn walk_func<'a>(
     let mut scope = Scope::new(alloc);
     define_params(&mut scope, func.params.as_slice())?;
     let mut walk = Walk { scope, best };
-    let scene = Scene::of_body(func, is_called);
-    walk.walk_region(names, untyped, &func.body, &scene)?;
+    let around = Around::of_body(func, is_called);
+    walk.walk_region(names, untyped, &func.body, &around)?;
     Ok(walk.best)
 }
