@@ -1,0 +1,14 @@
+pub mod RowFacts
+pub mod Places
+pub mod Numbers
+pub mod Effects
+pub mod Keeps
+pub mod Moves
+pub mod Edges
+pub mod EndFacts
+pub mod Jumps
+pub mod JumpKeeps
+pub mod Consequences
+pub mod AlongRuns
+pub mod Starts
+pub mod Worked

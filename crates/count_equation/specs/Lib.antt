@@ -1,0 +1,4 @@
+pub mod Equation
+pub mod Covers
+pub mod Worked
+pub mod Laws
