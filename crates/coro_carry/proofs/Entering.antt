@@ -4,17 +4,21 @@ use Rattle.std.specs.Prelude.{slice_get}
 use Rattle.ir_forms.specs.declared.args.ArgValue.{ArgValue}
 use Rattle.ir_forms.specs.declared.args.ArgValue.TheVariants as arg
 use Rattle.ir_forms.specs.declared.runs.FuncNo.{FuncNo}
+use Rattle.ir_forms.specs.declared.types.Ty.{Ty}
 use Rattle.low_forms.specs.declared.code.Block.{Block}
 use Rattle.low_forms.specs.declared.code.Instr.{Instr}
 use Rattle.low_forms.specs.declared.code.LowFunc.{LowFunc}
 use Rattle.low_forms.specs.declared.code.LowModule.{LowModule}
+use Rattle.low_forms.specs.declared.code.Reg.{Reg}
+use Rattle.low_forms.specs.Registers.{reg_type}
 use Rattle.low_forms.specs.Places.{Remaining, remaining_of}
 use Rattle.low_forms.specs.WellFormed.{IsWellFormed, WellFormed}
 use Rattle.async_objects.specs.declared.kinds.Val.{Val}
 use Rattle.task_stack.specs.declared.frames.Frame.{Frame}
 use Rattle.task_stack.specs.Frames.{new_frame}
+use Rattle.step_core.specs.declared.cells.ArgBuffer.{ArgBuffer}
 use Rattle.step_core.specs.declared.tasks.Task.{Task}
-use Rattle.step_core.specs.State.{buffer_val, argument_vals, ready, start_in}
+use Rattle.step_core.specs.State.{buffer_val, argument_vals, argument_buffers, cell_type, ready, start_in}
 use Rattle.step_core.specs.High.{High, Ref, start}
 use Rattle.code_machines.specs.Objects.{Stands, objects}
 use Rattle.coro_lower.specs.declared.label.End.{End}
@@ -28,11 +32,12 @@ use Rattle.coro_laws.proofs.Edging.{first_plain}
 use Rattle.coro_laws.proofs.Giving.{some_blocks}
 use Rattle.coro_laws.proofs.Making.{is_task_end, no_task_end}
 use Rattle.register_laws.proofs.Lists.{mapped_there}
-use Rattle.plain_carry.specs.Alike.{AlikeVal, AllAlike}
+use Rattle.plain_carry.specs.Alike.{AlikeVal, AllAlike, AllBelow}
 use Rattle.plain_carry.proofs.Values.{bind_alike}
 use Rattle.coro_carry.specs.Relation.{View, view, AllWait, Lands, at_row, MatchAt, lands, Agree}
 use Rattle.coro_carry.specs.Laws.{StartAgrees}
-use Rattle.coro_carry.proofs.Lists.{beyond}
+use Rattle.coro_carry.proofs.Lists.{all_below, beyond}
+use Rattle.coro_carry.proofs.Frames.{type_stays}
 use Rattle.coro_carry.proofs.Landing.{start_not_awaited}
 
 module _ (code : LowModule) (f : LowFunc) (well : IsWellFormed code f) (half : IsHalfLowered f) (plain : f.coroutine ≡ false) where
@@ -105,10 +110,21 @@ arguments_alike ks rs b [] = tt
 arguments_alike ks rs b (arg.Number n ∷ args) = (refl, arguments_alike ks rs b args)
 arguments_alike ks rs b (arg.Cells dims cells ∷ args) = (buffer_self ks rs b dims, arguments_alike ks rs (b + 1) args)
 
+-- the buffers of the parameters have the same cells in the code that the pass makes
+buffers_stay : (f : LowFunc) (j b : ℕ) (rs : List Reg) (args : List ArgValue) → AllBelow (length f.regs) rs → argument_buffers (lowered f) j b rs args ≡ argument_buffers f j b rs args
+buffers_stay f j b [] args below = refl
+buffers_stay f j b (r ∷ rs) [] below = refl
+buffers_stay f j b (r ∷ rs) (arg.Number n ∷ args) below = buffers_stay f (j + 1) b rs args below.1
+buffers_stay f j b (r ∷ rs) (arg.Cells dims cells ∷ args) below =
+    ap (λ (o : Option Ty). let it : ArgBuffer = record { argument = j; buffer = b; cell = cell_type o } in it ∷ argument_buffers (lowered f) (j + 1) (b + 1) rs args) (type_stays f r below.0)
+    ∙ ap (λ (xs : List ArgBuffer). let it : ArgBuffer = record { argument = j; buffer = b; cell = cell_type (reg_type f r) } in it ∷ xs) (buffers_stay f (j + 1) (b + 1) rs args below.1)
+
 -- where a run starts, both agree
 pub start_agrees : StartAgrees
 start_agrees code n f args well half there plain = record {
   buffers = refl;
+  arguments = buffers_stay f 0 0 f.params args (all_below (length f.regs) f.params (well n.0 f there).params_within);
+  root_end = refl;
   tasks = each;
   counted = refl;
   as_many = refl;

@@ -32,7 +32,7 @@ module _ (f : LowFunc) where
 
   -- ---- types of registers
 
-  type_stays : (r : Reg) → r.0 < length f.regs → reg_type (lowered f) r ≡ reg_type f r
+  pub type_stays : (r : Reg) → r.0 < length f.regs → reg_type (lowered f) r ≡ reg_type f r
   type_stays r less = get_first f.regs (map (λ (b : Block). ty.Int W1) f.blocks) (cond f.coroutine (coroutine_types f) []) r.0 less
 
   type_at_stays : (rs : List Reg) (i : ℕ) → AllBelow (length f.regs) rs → type_at (lowered f) rs i ≡ type_at f rs i

@@ -84,7 +84,7 @@ module _ (code : LowModule) where
   pub moves : (s : Plain) (k : Objects) (h : High) (t : ℕ) (task task' next next' : Task) (buffers buffers' : List (List ℕ)) → Agree code s k h → slice_get s.tasks t ≡ Some (Some task) → slice_get h.plain.tasks t ≡ Some (Some task') →
       buffers ≡ buffers' → Match code (view s k h) t next next' →
       Agree code (counted (with_task (with_buffers s buffers) t (Some next))) k (with_plain h (counted (with_task (with_buffers h.plain buffers') t (Some next'))))
-  moves s k h t task task' next next' buffers buffers' a at at' same m = record { buffers = same; tasks = each; counted = a.counted; as_many = a.as_many; named = a.named; settled = a.settled }
+  moves s k h t task task' next next' buffers buffers' a at at' same m = record { buffers = same; arguments = a.arguments; root_end = a.root_end; tasks = each; counted = a.counted; as_many = a.as_many; named = a.named; settled = a.settled }
     where
       each : (u : ℕ) → MatchAt code (view s k h) u (slice_get (slice_set s.tasks t (Some next)) u) (slice_get (slice_set h.plain.tasks t (Some next')) u)
       each u = ⊎_elim
@@ -98,7 +98,7 @@ module _ (code : LowModule) where
   -- the first code's task alone goes on
   pub moves_alone : (s : Plain) (k : Objects) (h : High) (t : ℕ) (task task' next : Task) → Agree code s k h → slice_get s.tasks t ≡ Some (Some task) → slice_get h.plain.tasks t ≡ Some (Some task') →
       Match code (view s k h) t next task' → Agree code (counted (with_task s t (Some next))) k h
-  moves_alone s k h t task task' next a at at' m = record { buffers = a.buffers; tasks = each; counted = a.counted; as_many = a.as_many; named = a.named; settled = a.settled }
+  moves_alone s k h t task task' next a at at' m = record { buffers = a.buffers; arguments = a.arguments; root_end = a.root_end; tasks = each; counted = a.counted; as_many = a.as_many; named = a.named; settled = a.settled }
     where
       each : (u : ℕ) → MatchAt code (view s k h) u (slice_get (slice_set s.tasks t (Some next)) u) (slice_get h.plain.tasks u)
       each u = ⊎_elim
@@ -121,6 +121,8 @@ module _ (code : LowModule) where
       let after = moves_alone s k h t task task' next a at at' m in
       record {
         buffers = after.buffers;
+        arguments = a.arguments;
+        root_end = a.root_end;
         tasks = subst (λ (xs : List Object). (u : ℕ) → MatchAt code (seen k h xs) u (slice_get (slice_set s.tasks t (Some next)) u) (slice_get h.plain.tasks u)) (sym same) after.tasks;
         counted = a.counted;
         as_many = a.as_many ∙ lengths objects' s.objects same;

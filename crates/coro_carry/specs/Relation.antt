@@ -317,6 +317,9 @@ pub record Grows (V after : View) : Type 0 where
 
 pub record Agree (code : LowModule) (s : Plain) (k : Objects) (h : High) : Type 0 where
   pub buffers : s.buffers ≡ h.plain.buffers
+  -- what a run ends with
+  pub arguments : s.arguments ≡ h.plain.arguments
+  pub root_end : s.root_end ≡ h.plain.root_end
   pub tasks : (t : ℕ) → MatchAt code (view s k h) t (slice_get s.tasks t) (slice_get h.plain.tasks t)
   -- groups and objects are counted alike
   pub counted : k.groups ≡ length h.groups

@@ -1,0 +1,5 @@
+use Rattle.row_carry.proofs.Absent.{absent_follows as law}
+use Rattle.row_carry.proofs.laws.absent_follows.Goals as goal
+
+pub returns : goal.returns
+returns c = law
