@@ -1,0 +1,11 @@
+pub mod Words
+pub mod Ends
+pub mod Structures
+pub mod Launches
+pub mod TaskFunctions
+pub mod Rows
+pub mod Operations
+pub mod LaunchSteps
+pub mod InScope
+pub mod InOrder
+pub mod CalledFunctions
