@@ -4,3 +4,4 @@ pub mod Marks
 pub mod UseLemmas
 pub mod Spans
 pub mod Posed
+pub mod Tables

@@ -3,4 +3,5 @@ pub mod Code
 pub mod Numbers
 pub mod Pending
 pub mod Rows
+pub mod Table
 pub mod Uses

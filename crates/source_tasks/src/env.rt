@@ -1,39 +1,55 @@
 //! The values of a function's activation.
-ghost use Rattle.std.specs.Prelude.{◌≡◌, ◌≤◌, vec_len, [], IfOk, OnOk};
-ghost use Rattle.source_meaning.specs.declared.values.Val.{Val};
-ghost use Rattle.source_meaning.specs.Values.{put, bind, named, values_at, number_in, buffer_in, dims_in, element_in, group_in};
+ghost use Rattle.std.specs.Prelude.{◌≡◌, [], IfOk, OnOk};
+ghost use Rattle.std.specs.Option.{option_copied};
+ghost use Rattle.source_meaning.specs.Values.{nothing, or_else, put, bind, named, values_at, number_in, buffer_in, dims_in, element_in, group_in};
 ghost use Rattle.source_meaning.specs.Steps.{value, number, numbers};
 
-use ir_forms::{ElementName, MadeName, ValueNo, copy_element, copy_made};
+use crate::held::Held;
+use crate::table::Table;
+use ir_forms::{ElementName, MadeName, ValueNo};
 use lists::Items;
-use source_meaning::{Val, copy_val};
+use source_meaning::Val;
 use std::alloc::{AllocError, Global};
 use std::marker::Model;
+use std::mem;
 
 /// The values of a function's activation, by number. One that was given none reads as the number 0.
 #[derive(Drop)]
 pub struct Env {
-    values: Vec<Val>,
+    alloc: Global,
+    len: usize,
+    table: Table,
 }
 
 impl Model for Env {
-    ghost use Rattle.std.specs.Prelude.{List};
+    ghost use Rattle.std.specs.Prelude.{◌≡◌, ◌≤◌, ℕ, List};
     ghost use Rattle.source_meaning.specs.declared.values.Val.{Val};
+    ghost use Rattle.source_meaning.specs.Values.{nothing};
+    ghost use Rattle.source_tasks.specs.Table.{kept, listed};
 
     ghost Value = { List Val };
 
-    ghost view = { λ e. e.values.items };
+    ghost view = { λ e. listed e.len e.table };
+
+    ghost invariant = { λ e. (n : ℕ) → e.len ≤ n → kept e.table n ≡ nothing };
 }
 
 impl Env {
+    /// What a name has, if it was given something.
+    fn held(&self, name: ValueNo) -> Option<&Held>
+        ensures { or_else nothing (option_copied result) ≡ named self.now name.0 }
+    {
+        self.table.get(name.0 as usize)
+    }
+
     #[tactic(auto, using(crate::proofs::Puts::value_of))]
     pub(crate) fn number(&self, names: &[ValueNo], i: usize) -> u64
         ensures { result ≡ number (values_at self.now names.now) i }
     {
         let Some(name) = names.get(i) else { return 0 };
-        match self.values.get(name.0 as usize) {
-            Some(Val::Number(n)) => *n,
-            _ => 0,
+        match self.held(*name) {
+            Some(held) => held.number(),
+            None => 0,
         }
     }
 
@@ -41,9 +57,9 @@ impl Env {
     pub(crate) fn number_of(&self, name: ValueNo) -> u64
         ensures { result ≡ number_in (named self.now name.0) }
     {
-        match self.values.get(name.0 as usize) {
-            Some(Val::Number(n)) => *n,
-            _ => 0,
+        match self.held(name) {
+            Some(held) => held.number(),
+            None => 0,
         }
     }
 
@@ -58,8 +74,8 @@ impl Env {
         ensures { IfOk result (λ b. b ≡ buffer_in (value (values_at self.now names.now) i)) }
     {
         if let Some(name) = names.get(i) {
-            if let Some(Val::Memory { buffer, .. }) = self.values.get(name.0 as usize) {
-                return copy_made(alloc, buffer);
+            if let Some(held) = self.held(*name) {
+                return held.buffer(alloc);
             }
         }
         Ok(MadeName::Argument { parameter: 0 })
@@ -76,8 +92,8 @@ impl Env {
         ensures { IfOk result (λ g. g ≡ group_in (value (values_at self.now names.now) i)) }
     {
         if let Some(name) = names.get(i) {
-            if let Some(Val::Group(group)) = self.values.get(name.0 as usize) {
-                return copy_made(alloc, group);
+            if let Some(held) = self.held(*name) {
+                return held.group(alloc);
             }
         }
         Ok(MadeName::Argument { parameter: 0 })
@@ -94,24 +110,24 @@ impl Env {
         ensures { IfOk result (λ x. x ≡ element_in (value (values_at self.now names.now) i)) }
     {
         if let Some(name) = names.get(i) {
-            if let Some(Val::Element(x)) = self.values.get(name.0 as usize) {
-                return Ok(Some(copy_element(alloc, x)?));
+            if let Some(held) = self.held(*name) {
+                return held.element(alloc);
             }
         }
         Ok(None)
     }
 
     /// Gives a value its name. Those before it that were given none are then the number 0.
-    #[tactic(auto, using(crate::proofs::Puts::put_within, crate::proofs::Puts::put_last))]
     pub(crate) fn put(&mut self, value: ValueNo, val: Val) -> Result<(), AllocError>
         ensures { OnOk result (self.new ≡ put self.old value.0 val) }
     {
-        let place = value.0 as usize;
-        grow(&mut self.values, place)?;
-        if place < self.values.len() {
-            self.values[place] = val;
-        } else {
-            self.values.push(val)?;
+        let number = value.0 as usize;
+        let held = Held::of(self.alloc, val)?;
+        let mut table = mem::replace(&mut self.table, Table::new(self.alloc));
+        table.put(self.alloc, number, held)?;
+        self.table = table;
+        if self.len <= number {
+            self.len = number + 1;
         }
         Ok(())
     }
@@ -120,7 +136,9 @@ impl Env {
         ensures { result ≡ [] }
     {
         Env {
-            values: Vec::new(alloc),
+            alloc,
+            len: 0,
+            table: Table::new(alloc),
         }
     }
 
@@ -135,8 +153,8 @@ impl Env {
         ensures { IfOk result (λ v. v ≡ value (values_at self.now names.now) i) }
     {
         if let Some(name) = names.get(i) {
-            if let Some(val) = self.values.get(name.0 as usize) {
-                return copy_val(alloc, val);
+            if let Some(held) = self.held(*name) {
+                return held.copy(alloc);
             }
         }
         Ok(Val::Number(0))
@@ -148,8 +166,8 @@ impl Env {
         ensures { result.now ≡ dims_in (value (values_at self.now names.now) i) }
     {
         if let Some(name) = names.get(i) {
-            if let Some(Val::Memory { dims, .. }) = self.values.get(name.0 as usize) {
-                return dims.as_slice();
+            if let Some(held) = self.held(*name) {
+                return held.dims();
             }
         }
         &[]
@@ -194,24 +212,15 @@ impl Env {
         Ok(())
     }
 
+    /// The same values, in the same leaves.
     pub(crate) fn copy(&self, alloc: Global) -> Result<Env, AllocError>
         ensures { IfOk result (λ copy. copy ≡ self.now) }
     {
-        let mut values = Vec::new(alloc);
-        for value in &self.values {
-            values.push(copy_val(alloc, value)?)?;
-        }
-        Ok(Env { values })
+        let table = self.table.share(alloc)?;
+        Ok(Env {
+            alloc,
+            len: self.len,
+            table,
+        })
     }
-}
-
-/// Lengthens the list to this length by numbers 0, which what isn't there reads as anyway.
-fn grow(values: &mut Vec<Val>, len: usize) -> Result<(), AllocError>
-    ensures same { OnOk result ((v : Val) → put values.new.items len v ≡ put values.old.items len v) }
-    ensures long { OnOk result (len ≤ vec_len values.new) }
-{
-    while values.len() < len {
-        values.push(Val::Number(0))?;
-    }
-    Ok(())
 }

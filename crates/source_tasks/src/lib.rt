@@ -11,6 +11,8 @@ mod facts;
 mod flow;
 mod forms;
 mod frames;
+mod held;
+mod leaf;
 mod loops;
 mod names;
 mod next;
@@ -18,6 +20,7 @@ mod pending;
 mod rows;
 mod sizes;
 mod step;
+mod table;
 mod task;
 mod uses;
 

@@ -1,5 +1,5 @@
 use Rattle.std.proofs.Common.{◌≡◌, take}
-use Rattle.source_tasks.proofs.env.Env.copy.Given as goal
+use Rattle.source_tasks.proofs.leaf.Leaf.copy.Given as goal
 
 -- the values so far
 abbrev pub invariant-loop-value : goal.invariant-loop-value

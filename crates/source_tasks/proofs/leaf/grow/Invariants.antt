@@ -1,7 +1,7 @@
 use Rattle.std.proofs.Common.{◌≡◌, ◌-◌, length}
 use Rattle.source_meaning.specs.declared.values.Val.{Val}
 use Rattle.source_meaning.specs.Values.{put}
-use Rattle.source_tasks.proofs.env.grow.Given as goal
+use Rattle.source_tasks.proofs.leaf.grow.Given as goal
 
 -- the list is longer by values that are there anyway
 abbrev pub invariant-loop-values : goal.invariant-loop-values
