@@ -1,0 +1,5 @@
+pub mod Passing
+pub mod Made
+pub mod Walk
+pub mod Fits
+pub mod Whole
