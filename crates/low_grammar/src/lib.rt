@@ -3,11 +3,13 @@
 #![tactic(auto)]
 
 mod laws;
+mod name_text;
 mod named;
 mod state;
 mod symbols;
 
 pub use laws::{has_one_code, reads_each_text, reads_texts_alone};
+pub use name_text::NameText;
 pub use named::{NamedAttr, NamedBlock, NamedFunc, NamedInstr, NamedParam, NamedTarget};
 pub use state::{AttributeEntry, State};
 pub use symbols::{Act, Class, Keyword, Rule};

@@ -1,8 +1,10 @@
 //! What is built while a text is read: the functions so far, what is open, and the names of the open function.
+use crate::name_text::NameText;
 use crate::named::{NamedBlock, NamedFunc, NamedInstr, NamedParam};
 use ir_forms::Ty;
 use lists::Items;
-use module_grammar::TextToken;
+use module_grammar::{Bytes, TextToken};
+use name_lists::NameList;
 
 /// How far an entry of a dictionary is `aio.coroutine`.
 #[derive(Clone, Copy)]
@@ -23,16 +25,16 @@ pub struct State<'a> {
     pub owed: u64,
     /// The parameters of the head that is read, and the name of the next one.
     pub params: Items<NamedParam>,
-    pub param: Items<u8>,
+    pub param: Bytes<'a>,
     /// The instruction, the block and the function that are read.
     pub instr: NamedInstr,
     pub block: NamedBlock,
     pub func: NamedFunc,
     /// The registers and blocks that the function defines so far, and those that it uses.
-    pub defined: Items<Items<u8>>,
-    pub labels: Items<Items<u8>>,
-    pub used: Items<Items<u8>>,
-    pub jumps: Items<Items<u8>>,
+    pub defined: NameList<NameText<'a>>,
+    pub labels: NameList<NameText<'a>>,
+    pub used: Items<Bytes<'a>>,
+    pub jumps: Items<Bytes<'a>>,
     /// How far the entry of a dictionary is read, and whether a whole one was found.
     pub entry: AttributeEntry,
     pub coroutine: bool,
