@@ -1,0 +1,4 @@
+pub mod Known
+pub mod KindLemmas
+pub mod Ops
+pub mod Whole
